@@ -1,0 +1,53 @@
+//! What a run answers: a status and two texts.
+use std::marker::Model;
+
+use crate::status::Status;
+
+/// A status that the words and the files decide, with the text of the output and that of the error output.
+#[derive(Drop)]
+pub struct Answer {
+    status: Status,
+    out: Vec<u8>,
+    err: Vec<u8>,
+}
+
+impl Model for Answer {
+    ghost use Rattle.pdcch_app.specs.Outcome.{Outcome, IsOutcome};
+
+    ghost Value = { Outcome };
+
+    ghost view = { λ a. record { status = a.status; out = a.out.items; err = a.err.items } };
+
+    ghost invariant = { λ a. IsOutcome (record { status = a.status; out = a.out.items; err = a.err.items }) };
+}
+
+impl Answer {
+    ghost use Rattle.std.specs.Prelude.{◌≡◌, true};
+    ghost use Rattle.pdcch_app.specs.Outcome.{IsOutcome};
+
+    pub fn new(status: Status, out: Vec<u8>, err: Vec<u8>) -> Answer
+        requires { IsOutcome (record { status = status; out = out.items; err = err.items }) }
+        ensures { result ≡ record { status = status; out = out.items; err = err.items } }
+    {
+        Answer { status, out, err }
+    }
+
+    pub fn status(&self) -> Status
+        ensures status { result ≡ self.now.status }
+        ensures outcome { IsOutcome self.now }
+    {
+        self.status
+    }
+
+    pub fn out(&self) -> &[u8]
+        ensures { result.now ≡ self.now.out }
+    {
+        &self.out
+    }
+
+    pub fn err(&self) -> &[u8]
+        ensures { result.now ≡ self.now.err }
+    {
+        &self.err
+    }
+}

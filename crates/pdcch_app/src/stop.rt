@@ -1,0 +1,56 @@
+//! Why a run stops before its job is done.
+ghost use Rattle.std.specs.Prelude.{◌≡◌, ◌++◌, ◌∷◌, [], true, false, IfOk};
+ghost use Rattle.pdcch_app.specs.declared.stop.Stop.TheVariants.{OutOfMemory};
+ghost use Rattle.pdcch_app.specs.Outcome.{is_done, is_cause, refused};
+ghost use Rattle.pdcch_app.specs.Steps.{IsStop};
+
+use std::alloc::{AllocError, AllocFailed, Global};
+
+use crate::answer::Answer;
+use crate::status::Status;
+
+/// Why a run stops before its job is done.
+#[derive(Drop)]
+pub enum Stop {
+    /// Memory ran out.
+    OutOfMemory,
+    /// A refusal.
+    Ended(Answer),
+}
+
+impl From<AllocError> for Stop {
+    ghost from_gives = { λ _ stop. stop ≡ OutOfMemory };
+
+    fn from(_error: AllocError) -> Stop {
+        Stop::OutOfMemory
+    }
+}
+
+impl<T: Drop> From<AllocFailed<T>> for Stop {
+    ghost from_gives = { λ _ stop. stop ≡ OutOfMemory };
+
+    fn from(_error: AllocFailed<T>) -> Stop {
+        Stop::OutOfMemory
+    }
+}
+
+fn line_of(alloc: Global, text: &[u8], name: &str) -> Result<Vec<u8>, AllocError>
+    ensures { IfOk result (λ line. line.items ≡ text.now ++ name.now ++ 10 ∷ []) }
+{
+    let mut line = Vec::from_slice(alloc, text)?;
+    line.extend_from_slice(name.as_bytes())?;
+    line.push(b'\n')?;
+    Ok(line)
+}
+
+/// The refusal with a status and one line, which ends in the name.
+pub fn refusal(alloc: Global, status: Status, text: &[u8], name: &str) -> Stop
+    requires cause { is_cause status ≡ true }
+    requires refusal { is_done status ≡ false }
+    ensures { IsStop (refused status (text.now ++ name.now)) result }
+{
+    match line_of(alloc, text, name) {
+        Ok(line) => Stop::Ended(Answer::new(status, Vec::new(alloc), line)),
+        Err(_) => Stop::OutOfMemory,
+    }
+}
