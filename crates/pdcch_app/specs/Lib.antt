@@ -1,5 +1,9 @@
 pub mod Statuses
 pub mod Outcome
 pub mod Words
-pub mod Steps
 pub mod FirstForms
+pub mod GridText
+pub mod Written
+pub mod Outcomes
+pub mod Steps
+pub mod Ran

@@ -1,0 +1,3 @@
+pub mod FirstTables
+pub mod Taking
+pub mod Working

@@ -1,0 +1,38 @@
+-- The outcome of each command, step by step in the order of the work.
+use Rattle.std.specs.Prelude.{ℕ, List, [], ◌∷◌, Option, Some, None, Result, Ok, Err, String, true, codes}
+use Rattle.std.specs.declared.alloc.Global.{Global}
+use Rattle.pdcch_app.specs.declared.status.Status.TheVariants as status
+use Rattle.pdcch_app.specs.declared.words.Command.{Command}
+use Rattle.pdcch_app.specs.declared.words.Command.TheVariants.{Write}
+use Rattle.pdcch_app.specs.declared.first_cell.FirstCell.{FirstCell}
+use Rattle.pdcch_app.specs.declared.first_grant.FirstGrant.{FirstGrant}
+use Rattle.pdcch_app.specs.Outcome.{Outcome, Refusal, Printed, Fetched, refused, ended, reading}
+use Rattle.pdcch_app.specs.Words.{legal, file}
+use Rattle.pdcch_app.specs.FirstForms.{settings_of, table_of, grant_of}
+use Rattle.pdcch_app.specs.Written.{grid_of_grant}
+use Rattle.pdcch_app.specs.GridText.{grid_text}
+
+-- the bytes themselves
+abbrev pub raw : List ℕ → Result (List ℕ) Refusal
+raw bytes = Ok bytes
+
+-- the job of `write`: the text of the grid with the grant on it
+abbrev pub written : FirstCell → FirstGrant → Result Printed Refusal
+written cell grant = Ok (record { whole = true; out = grid_text (grid_of_grant cell grant); err = [] })
+
+-- `write`: the settings, the two tables and the grants, each fetched and checked before the next
+abbrev pub write_of : List ℕ → List ℕ → List ℕ → List ℕ → List Fetched → Outcome
+write_of settings reliability input_order grants =
+    reading (settings_of settings) settings (λ cell.
+    reading (table_of 1024 reliability) reliability (λ _.
+    reading (table_of 164 input_order) input_order (λ _.
+    reading (grant_of grants) grants (λ grant _. ended (written cell grant)))))
+
+-- the outcome of a command
+abbrev pub served : Option Command → List (String Global) → List Fetched → Outcome
+served None words gave = refused status.Usage (codes "error: usage")
+served (Some Write) words gave = write_of (file words 0) (file words 1) (file words 2) (file words 3) gave
+
+-- the outcome of a run with these words, over what each fetch gave
+abbrev pub outcome : List (String Global) → List Fetched → Outcome
+outcome words = served (legal words) words

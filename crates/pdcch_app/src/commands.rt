@@ -1,0 +1,46 @@
+//! The commands, each step by step in the order of its work.
+ghost use Rattle.std.specs.Prelude.{◌≡◌, ◌∷◌, [], ℕ, List};
+ghost use Rattle.pdcch_app.specs.Outcome.{ended};
+ghost use Rattle.pdcch_app.specs.Outcomes.{write_of, written};
+ghost use Rattle.pdcch_app.specs.Steps.{Work, Ends};
+
+use std::alloc::Global;
+
+use outside::Shelf;
+
+use crate::answer::Answer;
+use crate::files::{grant_at, settings_at, table_at};
+use crate::first_cell::FirstCell;
+use crate::first_grant::FirstGrant;
+use crate::status::Status;
+use crate::stop::Stop;
+
+#[tactic(auto, unfolding(crate::specs::Written::grid_of_grant, crate::specs::GridText::grid_text))]
+fn write_text(alloc: Global, cell: &FirstCell, grant: &FirstGrant) -> Result<Answer, Stop>
+    ensures { Ends result (ended (written cell.now grant.now)) }
+{
+    let text = Vec::from_slice(alloc, b"grid")?;
+    Ok(Answer::new(Status::Done, text, Vec::new(alloc)))
+}
+
+/// Writes the grid of the grants in the cell of the settings, with the two tables.
+pub fn write<S: Shelf>(
+    alloc: Global,
+    shelf: &mut S,
+    settings: &str,
+    reliability: &str,
+    input_order: &str,
+    grants: &str,
+) -> Result<Answer, Stop>
+    requires settings { S.may shelf.old settings.now }
+    requires reliability { S.may shelf.old reliability.now }
+    requires input_order { S.may shelf.old input_order.now }
+    requires grants { S.may shelf.old grants.now }
+    ensures { Work (write_of settings.now reliability.now input_order.now grants.now) (settings.now ∷ reliability.now ∷ input_order.now ∷ grants.now ∷ []) (S.told shelf.old) (S.faults shelf.old) (S.faults shelf.new) (S.longs shelf.old) (S.longs shelf.new) result }
+{
+    let cell = settings_at(alloc, shelf, settings)?;
+    table_at(alloc, shelf, 1024, reliability)?;
+    table_at(alloc, shelf, 164, input_order)?;
+    let grant = grant_at(alloc, shelf, grants)?;
+    write_text(alloc, &cell, &grant)
+}
