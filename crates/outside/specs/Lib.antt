@@ -1,1 +1,5 @@
 pub mod Causes
+pub mod Taken
+pub mod Memory
+pub mod Named
+pub mod Counts

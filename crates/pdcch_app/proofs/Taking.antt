@@ -1,7 +1,7 @@
 -- What one fetch gives.
 use Rattle.std.proofs.Common.{◌≡◌, ◌<◌, ◌≤◌, ◌⊎◌, inl, inr, ℕ, Bool, true, false, cond, leb, List, [], Option, Some, None, Result, Ok, Err, length, refl, sym, ap, ◌∙◌, subst, arith, rules}
 use Rattle.outside.specs.Causes.{Rose, Fetches}
-use Rattle.outside.specs.declared.shelf.FetchFault.TheVariants as fault
+use Rattle.outside.specs.declared.faults.FetchFault.TheVariants as fault
 use Rattle.pdcch_app.specs.declared.stop.Stop.TheVariants.{OutOfMemory, Ended}
 use Rattle.pdcch_app.specs.Outcome.{Refusal, Fetched, Bytes, TooLong, Fault, given_of, limit, unread, read_as}
 use Rattle.pdcch_app.specs.Outcomes.{raw}

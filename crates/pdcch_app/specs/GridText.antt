@@ -1,5 +1,29 @@
--- STUB
-use Rattle.std.specs.Prelude.{ℕ, List}
+-- The text of a grid: one line for its kind, one with its numbers, one for each symbol, and the end.
+use Rattle.std.specs.Prelude.{ℕ, ◌*◌, List, [], ◌∷◌, ◌++◌, map, codes}
+use Rattle.std.specs.List.{range_with_len, flat_map}
+use Rattle.std.specs.Fmt.{decimal}
+use Rattle.slot_grid.specs.declared.places.Point.{Point}
+use Rattle.slot_grid.specs.declared.places.Point.TheVariants.{Empty, P00, P01, P10, P11}
+use Rattle.slot_grid.specs.Grid.{GridValue, point_at}
 
-unfoldable pub grid_text : List ℕ → List ℕ
-grid_text g = g
+-- the character of a point
+abbrev pub point_byte : Point → ℕ
+point_byte Empty = 46
+point_byte P00 = 48
+point_byte P01 = 49
+point_byte P10 = 50
+point_byte P11 = 51
+
+-- the first two lines
+unfoldable pub grid_head : ℕ → ℕ → ℕ → ℕ → List ℕ
+grid_head mu frame slot blocks =
+    codes "nrpdcch grid 1\nmu " ++ decimal mu ++ codes " frame " ++ decimal frame ++ codes " slot " ++ decimal slot ++ codes " blocks " ++ decimal blocks ++ 10 ∷ []
+
+-- the line of a symbol: its points by rising subcarrier
+unfoldable pub symbol_line : GridValue → ℕ → List ℕ
+symbol_line grid symbol = map (λ c. point_byte (point_at grid symbol c)) (range_with_len 0 (12 * grid.blocks)) ++ 10 ∷ []
+
+-- the text
+unfoldable pub grid_text : GridValue → List ℕ
+grid_text grid =
+    grid_head grid.mu grid.frame grid.slot grid.blocks ++ flat_map (symbol_line grid) (range_with_len 0 14) ++ codes "end\n"

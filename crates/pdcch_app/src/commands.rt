@@ -2,6 +2,7 @@
 ghost use Rattle.std.specs.Prelude.{◌≡◌, ◌∷◌, [], ℕ, List};
 ghost use Rattle.pdcch_app.specs.Outcome.{ended};
 ghost use Rattle.pdcch_app.specs.Outcomes.{write_of, written};
+ghost use Rattle.pdcch_app.specs.Payload.{IsInRange};
 ghost use Rattle.pdcch_app.specs.Steps.{Work, Ends};
 
 use std::alloc::Global;
@@ -12,14 +13,18 @@ use crate::answer::Answer;
 use crate::files::{grant_at, settings_at, table_at};
 use crate::first_cell::FirstCell;
 use crate::first_grant::FirstGrant;
+use crate::grid_text::grid_text;
 use crate::status::Status;
 use crate::stop::Stop;
+use crate::written::grid_of_grant;
 
-#[tactic(auto, unfolding(crate::specs::Written::grid_of_grant, crate::specs::GridText::grid_text))]
+/// The text of the cell's grid with the grant on it.
 fn write_text(alloc: Global, cell: &FirstCell, grant: &FirstGrant) -> Result<Answer, Stop>
+    requires { IsInRange grant.now }
     ensures { Ends result (ended (written cell.now grant.now)) }
 {
-    let text = Vec::from_slice(alloc, b"grid")?;
+    let grid = grid_of_grant(alloc, cell, grant)?;
+    let text = grid_text(alloc, &grid)?;
     Ok(Answer::new(Status::Done, text, Vec::new(alloc)))
 }
 

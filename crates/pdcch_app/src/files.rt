@@ -1,7 +1,8 @@
 //! Fetches and checks each of the four files.
-ghost use Rattle.std.specs.Prelude.{◌≡◌, ◌≤◌, ℕ, List};
+ghost use Rattle.std.specs.Prelude.{◌≡◌, ◌≤◌, ℕ, List, IfOk};
 ghost use Rattle.pdcch_app.specs.FirstForms.{settings_of, table_of, grant_of};
 ghost use Rattle.pdcch_app.specs.Outcome.{checked};
+ghost use Rattle.pdcch_app.specs.Payload.{IsInRange};
 ghost use Rattle.pdcch_app.specs.Steps.{Step, IsRead};
 
 use std::alloc::Global;
@@ -42,7 +43,8 @@ fn read_table(alloc: Global, size: u16, name: &str, text: &[u8]) -> Result<(), S
 
 #[tactic(auto, unfolding(crate::specs::FirstForms::grant_of))]
 fn read_grant(alloc: Global, name: &str, text: &[u8]) -> Result<FirstGrant, Stop>
-    ensures { IsRead result (checked (grant_of name.now text.now)) }
+    ensures read { IsRead result (checked (grant_of name.now text.now)) }
+    ensures range { IfOk result IsInRange }
 {
     match grant_in(text) {
         Some(grant) => Ok(grant),
@@ -81,6 +83,7 @@ pub fn table_at<S: Shelf>(
 /// The grant of a file.
 pub fn grant_at<S: Shelf>(alloc: Global, shelf: &mut S, name: &str) -> Result<FirstGrant, Stop>
     requires { S.may shelf.old name.now }
+    ensures range { IfOk result IsInRange }
     ensures step { Step (grant_of name.now) name.now (S.told shelf.old name.now) (S.faults shelf.old) (S.faults shelf.new) (S.longs shelf.old) (S.longs shelf.new) result }
     ensures told { (n : List ℕ) → S.told shelf.new n ≡ S.told shelf.old n }
     ensures may { (n : List ℕ) → S.may shelf.old n → S.may shelf.new n }

@@ -1,6 +1,7 @@
 //! The first grants: one grant of format 1_0 at aggregation level 8.
-ghost use Rattle.std.specs.Prelude.{◌≡◌};
+ghost use Rattle.std.specs.Prelude.{◌≡◌, IfSome};
 ghost use Rattle.pdcch_app.specs.FirstForms.{grant_in};
+ghost use Rattle.pdcch_app.specs.Payload.{IsInRange};
 
 use crate::reader::Reader;
 
@@ -47,7 +48,8 @@ pub struct FirstGrant {
 /// The grant of a first grants text; `None` exactly where the text is another.
 #[tactic(auto, unfolding(crate::specs::FirstForms::grant_in))]
 pub fn grant_in(text: &[u8]) -> Option<FirstGrant>
-    ensures { result ≡ grant_in text.now }
+    ensures grant { result ≡ grant_in text.now }
+    ensures range { IfSome result (λ grant. IsInRange grant) }
 {
     let mut reader = Reader::new(text);
     reader.skip(BEFORE_FDRA)?;

@@ -1,17 +1,11 @@
 //! The first tables: ascending numbers with single spaces between.
-ghost use Rattle.std.specs.Prelude.{◌≡◌, ◌≤◌, ◌++◌, IfOk, OnOk, decimal};
+ghost use Rattle.std.specs.Prelude.{◌≡◌, ◌≤◌, IfOk};
 ghost use Rattle.std.specs.Str.{bytes_eq};
 ghost use Rattle.pdcch_app.specs.FirstForms.{first_table};
 
 use std::alloc::{AllocError, Global};
 
-/// Appends a number in decimal digits.
-fn push_number(alloc: Global, text: &mut Vec<u8>, number: u16) -> Result<(), AllocError>
-    ensures { OnOk result (text.new.items ≡ text.old.items ++ decimal number) }
-{
-    let digits = format!(in alloc; "{number}")?;
-    text.extend_from_slice(digits.as_bytes())
-}
+use crate::decimal_text::push_number;
 
 /// The first table of a size.
 #[tactic(auto, using(crate::proofs::FirstTables::joined_more), unfolding(crate::specs::FirstForms::first_table))]

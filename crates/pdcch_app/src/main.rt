@@ -2,17 +2,42 @@
 #![tactic(auto)]
 
 mod answer;
+mod coding;
 mod commands;
+mod decimal_text;
 mod files;
 mod first_cell;
 mod first_grant;
 mod first_table;
+mod grid_text;
+mod payload;
+mod points;
 mod reader;
+mod resources;
 mod status;
 mod stop;
 mod take;
-mod top;
 mod text;
+mod top;
 mod words;
+mod written;
 
-fn main() {}
+use std::env;
+use std::io;
+use std::process::ExitCode;
+
+use outside::{FileShelf, StdSink};
+
+use top::run;
+
+#[cfg(test)]
+mod tests;
+
+fn main(rt: HostRuntime) -> io::Result<ExitCode> {
+    let words: Vec<String> = env::args(&rt)?.skip(1).collect(rt.alloc())?;
+    let mut shelf = FileShelf::new(&rt);
+    let mut out = StdSink::new(rt.stdout());
+    let mut err = StdSink::new(rt.stderr());
+    let status = run(&rt, rt.alloc(), &words, &mut shelf, &mut out, &mut err);
+    Ok(ExitCode::from(status.code()))
+}

@@ -1,5 +1,5 @@
 //! Reads texts and numbers from the front of some bytes.
-ghost use Rattle.std.specs.Prelude.{◌≡◌, ◌≤◌, ◌<◌, ◌^◌, [], ◌∷◌, IsTrue, ◌↔◌, option_map, min, ◌+◌, ◌*◌};
+ghost use Rattle.std.specs.Prelude.{◌≡◌, ◌≤◌, ◌<◌, ◌^◌, [], ◌∷◌, IsTrue, ◌↔◌, option_map, IfSome, min, ◌+◌, ◌*◌};
 ghost use Rattle.pdcch_app.specs.FirstForms.{after, number, digits_from, has_number};
 
 use std::marker::Model;
@@ -72,7 +72,8 @@ impl<'a> Reader<'a> {
     /// Passes a number from `low` to `high` that stands in front without leading zeros; `None` where none does.
     #[tactic(auto, unfolding(crate::specs::FirstForms::number))]
     pub fn number(&mut self, low: u16, high: u16) -> Option<u16>
-        ensures { number low high self.old ≡ option_map (λ n. (n, self.new)) result }
+        ensures number { number low high self.old ≡ option_map (λ n. (n, self.new)) result }
+        ensures range { IfSome result (λ n. (low ≤ n) × (n ≤ high)) }
     {
         if !has_number(self.rest) {
             return None;

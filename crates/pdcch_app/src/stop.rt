@@ -6,6 +6,8 @@ ghost use Rattle.pdcch_app.specs.Steps.{IsStop};
 
 use std::alloc::{AllocError, AllocFailed, Global};
 
+use bits_core::NoMemory;
+
 use crate::answer::Answer;
 use crate::status::Status;
 
@@ -30,6 +32,14 @@ impl<T: Drop> From<AllocFailed<T>> for Stop {
     ghost from_gives = { λ _ stop. stop ≡ OutOfMemory };
 
     fn from(_error: AllocFailed<T>) -> Stop {
+        Stop::OutOfMemory
+    }
+}
+
+impl From<NoMemory> for Stop {
+    ghost from_gives = { λ _ stop. stop ≡ OutOfMemory };
+
+    fn from(_error: NoMemory) -> Stop {
         Stop::OutOfMemory
     }
 }

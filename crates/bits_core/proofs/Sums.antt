@@ -1,0 +1,96 @@
+-- Sums modulo 2 of bits.
+use Rattle.std.proofs.Common.{◌≡◌, ℕ, zero, suc, ◌+◌, ◌<◌, Bool, true, false, ◌&&◌, refl, ap, sym, ◌∙◌, arith, add-zero, add-suc}
+use Rattle.bits_core.specs.Bits.{plus, sum_below}
+
+pub plus_cancel : (a b : Bool) → plus (plus a b) b ≡ a
+plus_cancel true true = refl
+plus_cancel true false = refl
+plus_cancel false true = refl
+plus_cancel false false = refl
+
+pub plus_comm : (a b : Bool) → plus a b ≡ plus b a
+plus_comm true true = refl
+plus_comm true false = refl
+plus_comm false true = refl
+plus_comm false false = refl
+
+pub plus-false : (a : Bool) → plus a false ≡ a
+plus-false true = refl
+plus-false false = refl
+
+pub plus_assoc : (a b c : Bool) → plus (plus a b) c ≡ plus a (plus b c)
+plus_assoc true true true = refl
+plus_assoc true true false = refl
+plus_assoc true false c = refl
+plus_assoc false b c = refl
+
+pub and-plus : (c a b : Bool) → (c && plus a b) ≡ plus (c && a) (c && b)
+and-plus true a b = refl
+and-plus false a b = refl
+
+-- two sums, term by term
+pub plus-plus : (a b c d : Bool) → plus (plus a b) (plus c d) ≡ plus (plus a c) (plus b d)
+plus-plus true true true true = refl
+plus-plus true true true false = refl
+plus-plus true true false true = refl
+plus-plus true true false false = refl
+plus-plus true false true true = refl
+plus-plus true false true false = refl
+plus-plus true false false true = refl
+plus-plus true false false false = refl
+plus-plus false true true true = refl
+plus-plus false true true false = refl
+plus-plus false true false true = refl
+plus-plus false true false false = refl
+plus-plus false false true true = refl
+plus-plus false false true false = refl
+plus-plus false false false true = refl
+plus-plus false false false false = refl
+
+pub sum_below-same : (n : ℕ) (f g : ℕ → Bool) → ((i : ℕ) → i < n → f i ≡ g i) → sum_below n f ≡ sum_below n g
+unfolding sum_below
+sum_below-same zero f g h = refl
+sum_below-same (suc n) f g h =
+    ap (λ (b : Bool). plus b (f n)) (sum_below-same n f g (λ i l. h i (omega arith)))
+    ∙ ap (λ (b : Bool). plus (sum_below n g) b) (h n (omega arith))
+
+pub sum_below-zero : (n : ℕ) (f : ℕ → Bool) → ((i : ℕ) → i < n → f i ≡ false) → sum_below n f ≡ false
+unfolding sum_below
+sum_below-zero zero f h = refl
+sum_below-zero (suc n) f h =
+    ap (λ (b : Bool). plus b (f n)) (sum_below-zero n f (λ i l. h i (omega arith))) ∙ h n (omega arith)
+
+pub sum_below-plus : (n : ℕ) (f g : ℕ → Bool) → sum_below n (λ i. plus (f i) (g i)) ≡ plus (sum_below n f) (sum_below n g)
+unfolding sum_below
+sum_below-plus zero f g = refl
+sum_below-plus (suc n) f g =
+    ap (λ (b : Bool). plus b (plus (f n) (g n))) (sum_below-plus n f g)
+    ∙ plus-plus (sum_below n f) (sum_below n g) (f n) (g n)
+
+-- one more term at the end
+pub sum_below-suc : (n : ℕ) (f : ℕ → Bool) → sum_below (suc n) f ≡ plus (sum_below n f) (f n)
+unfolding sum_below
+sum_below-suc n f = refl
+
+-- a sum in two parts
+pub sum_below-add : (m n : ℕ) (f : ℕ → Bool) → sum_below (m + n) f ≡ plus (sum_below m f) (sum_below n (λ i. f (m + i)))
+unfolding sum_below
+sum_below-add m zero f = ap (λ (k : ℕ). sum_below k f) (add-zero m) ∙ sym (plus-false (sum_below m f))
+sum_below-add m (suc n) f =
+    ap (λ (k : ℕ). sum_below k f) (add-suc m n)
+    ∙ ap (λ (b : Bool). plus b (f (m + n))) (sum_below-add m n f)
+    ∙ plus_assoc (sum_below m f) (sum_below n (λ i. f (m + i))) (f (m + n))
+
+and-false : (a : Bool) → (a && false) ≡ false
+and-false true = refl
+and-false false = refl
+
+and-true : (a : Bool) → (a && true) ≡ a
+and-true true = refl
+and-true false = refl
+
+-- a common factor
+pub sum_below-and : (n : ℕ) (f : ℕ → Bool) (b : Bool) → sum_below n (λ i. f i && b) ≡ (sum_below n f && b)
+sum_below-and n f true = sum_below-same n (λ i. f i && true) f (λ i l. and-true (f i)) ∙ sym (and-true (sum_below n f))
+sum_below-and n f false =
+    sum_below-zero n (λ i. f i && false) (λ i l. and-false (f i)) ∙ sym (and-false (sum_below n f))

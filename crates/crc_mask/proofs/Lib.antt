@@ -1,0 +1,5 @@
+pub mod Masks
+mod Numbers
+mod Pins
+mod Registers
+mod Remainders

@@ -1,0 +1,9 @@
+//! The parity bits of a payload, masked by the identity that it is sent to: 3GPP TS 38.212, 5.1, 7.3.2 and 7.3.3.
+#![tactic(auto)]
+
+mod mask;
+mod register;
+#[cfg(test)]
+mod tests;
+
+pub use mask::{attach, strip};

@@ -1,0 +1,2 @@
+pub mod Gold
+pub mod Sequence

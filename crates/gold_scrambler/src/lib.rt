@@ -1,0 +1,10 @@
+//! The pseudo-random sequence that scrambles the coded bits and gives the reference points (3GPP TS 38.211, 5.2.1).
+#![tactic(auto)]
+
+pub mod laws;
+mod sequence;
+
+pub use sequence::Gold;
+
+#[cfg(test)]
+mod tests;

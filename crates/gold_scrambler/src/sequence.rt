@@ -1,0 +1,98 @@
+//! The sequence, bit by bit.
+ghost use Rattle.std.specs.Prelude.{◌≡◌, ◌+◌, ◌^◌, ◌<◌, ◌≤◌};
+ghost use Rattle.gold_scrambler.specs.Gold.{next1, next2, gold};
+
+use std::marker::Model;
+
+/// How many steps the registers take before the first bit of the sequence.
+const OFFSET: u32 = 1600;
+
+/// The top bit of a register of 31 bits.
+const TOP: u32 = 1 << 30;
+
+/// The sequence of one start value, standing before one of its bits.
+///
+/// At most 2^30 bits of it are passed in all.
+#[derive(Drop)]
+pub struct Gold {
+    first: u32,
+    second: u32,
+    c_init: u32,
+    at: u32,
+}
+
+impl Model for Gold {
+    ghost use Rattle.std.specs.Prelude.{◌+◌, ◌^◌, ◌<◌, ◌≤◌};
+    ghost use Rattle.gold_scrambler.specs.Gold.{GoldValue, IsStanding};
+
+    ghost Value = { GoldValue };
+
+    ghost view = { λ g. record { c_init = g.c_init; at = g.at } };
+
+    ghost invariant = { λ g. IsStanding g.c_init g.at g.first g.second };
+}
+
+impl Gold {
+    /// The sequence with the start value `c_init`, which is below 2^31, before its first bit.
+    pub fn new(c_init: u32) -> Gold
+        requires { c_init < 2 ^ 31 }
+        ensures c_init { result.c_init ≡ c_init }
+        ensures at { result.at ≡ 0 }
+    {
+        let mut first = 1;
+        let mut second = c_init;
+        for _step in 0..OFFSET {
+            first = next_first(first);
+            second = next_second(second);
+        }
+        Gold {
+            first,
+            second,
+            c_init,
+            at: 0,
+        }
+    }
+
+    /// The next bit of the sequence.
+    pub fn next_bit(&mut self) -> bool
+        requires { self.old.at < 2 ^ 30 }
+        ensures bit { result ≡ gold self.old.c_init self.old.at }
+        ensures c_init { self.new.c_init ≡ self.old.c_init }
+        ensures at { self.new.at ≡ self.old.at + 1 }
+    {
+        let bit = self.first % 2 != self.second % 2;
+        self.first = next_first(self.first);
+        self.second = next_second(self.second);
+        self.at += 1;
+        bit
+    }
+
+    /// Passes the next `count` bits.
+    pub fn skip(&mut self, count: u32)
+        requires { self.old.at + count ≤ 2 ^ 30 }
+        ensures c_init { self.new.c_init ≡ self.old.c_init }
+        ensures at { self.new.at ≡ self.old.at + count }
+    {
+        for _passed in 0..count {
+            self.next_bit();
+        }
+    }
+}
+
+/// The first register one step on.
+fn next_first(register: u32) -> u32
+    requires { register < 2 ^ 31 }
+    ensures next { result ≡ next1 register }
+    ensures small { result < 2 ^ 31 }
+{
+    register / 2 + (register / 8 + register) % 2 * TOP
+}
+
+/// The second register one step on.
+fn next_second(register: u32) -> u32
+    requires { register < 2 ^ 31 }
+    ensures next { result ≡ next2 register }
+    ensures small { result < 2 ^ 31 }
+{
+    register / 2 + (register / 8 + register / 4 + register / 2 + register) % 2 * TOP
+}

@@ -1,0 +1,100 @@
+ghost use Rattle.std.specs.Prelude.{◌≡◌, ◌<◌, ◌≤◌, [], None, length, IfSome, OnOk};
+ghost use Rattle.std.specs.Result.{IsErrOf};
+
+use crate::{FetchFault, Shelf};
+use std::alloc::Global;
+use std::fs;
+use std::io::Read;
+use std::marker::Model;
+use std::rt::Files;
+
+/// How many bytes are asked for at once.
+const PIECE: usize = 4096;
+
+/// A shelf of the runtime's files. It doesn't tell what they hold.
+#[derive(Drop)]
+pub struct FileShelf<'a, R> {
+    rt: &'a R,
+    faults: u64,
+    longs: u64,
+}
+
+impl<'a, R> Model for FileShelf<'a, R> {
+    ghost use Rattle.outside.specs.Counts.{Counts};
+
+    ghost Value = { Counts };
+
+    ghost view = { λ s. record { faults = s.faults; longs = s.longs } };
+}
+
+impl<'a, R: Files> FileShelf<'a, R> {
+    pub fn new(rt: &'a R) -> FileShelf<'a, R>
+        ensures { result ≡ record { faults = 0; longs = 0 } }
+    {
+        FileShelf {
+            rt,
+            faults: 0,
+            longs: 0,
+        }
+    }
+}
+
+impl<'a, R: Files> Shelf for FileShelf<'a, R> {
+    ghost told = { λ _ _. None };
+
+    ghost faults = { λ s. s.faults };
+
+    ghost longs = { λ s. s.longs };
+
+    ghost may = { λ _ _. Unit {0} };
+
+    fn fetch(
+        &mut self,
+        _alloc: Global,
+        name: &str,
+        limit: usize,
+        into: &mut Vec<u8>,
+    ) -> Result<(), FetchFault> {
+        into.clear();
+        let read = match fs::open(self.rt, name) {
+            Ok(mut file) => read_within(&mut file, limit, into),
+            Err(_) => Err(FetchFault::Failed),
+        };
+        match read {
+            Ok(()) => return Ok(()),
+            Err(FetchFault::Failed) => self.faults = self.faults.saturating_add(1),
+            Err(FetchFault::TooLong) => self.longs = self.longs.saturating_add(1),
+            Err(FetchFault::NoMemory) => {}
+        }
+        into.clear();
+        read
+    }
+}
+
+/// Reads to the end, where that comes within `limit` bytes. A read that gives nothing is the end.
+fn read_within<F: Read>(file: &mut F, limit: usize, into: &mut Vec<u8>) -> Result<(), FetchFault>
+    requires { into.old.items ≡ [] }
+    ensures fits { OnOk result (length into.new.items ≤ limit) }
+
+    // Where the reader tells what it has left, these are the bytes, and `TooLong` comes only where there are more.
+    ensures whole { OnOk result (IfSome (F.remaining file.old) (λ bytes. into.new.items ≡ bytes)) }
+    ensures longer { IsErrOf result FetchFault.TooLong → IfSome (F.remaining file.old) (λ bytes. limit < length bytes) }
+{
+    let mut piece = [0u8; PIECE];
+    loop {
+        let ask = (limit - into.len()).min(PIECE - 1) + 1;
+        let count = match file.read(&mut piece[..ask]) {
+            Ok(count) => count,
+            Err(_) => return Err(FetchFault::Failed),
+        };
+        if count == 0 {
+            return Ok(());
+        }
+        if count > limit - into.len() {
+            return Err(FetchFault::TooLong);
+        }
+        if into.extend_from_slice(&piece[..count]).is_err() {
+            return Err(FetchFault::NoMemory);
+        }
+    }
+}

@@ -1,0 +1,128 @@
+ghost use Rattle.std.specs.Prelude.{◌≡◌, ◌<◌, ◌↔◌, ℕ, List, map, length, IfSome};
+ghost use Rattle.std.specs.Option.{option_map};
+ghost use Rattle.std.specs.Result.{IsErrOf};
+ghost use Rattle.outside.specs.Causes.{Fetches, next_count};
+ghost use Rattle.outside.specs.Memory.{bytes_of};
+ghost use Rattle.outside.specs.Named.{object_of};
+
+use crate::{FetchFault, Shelf};
+use std::alloc::Global;
+use std::marker::Model;
+
+/// An object of a shelf in memory.
+#[derive(Drop)]
+pub struct NamedBytes {
+    pub name: String,
+    pub bytes: Vec<u8>,
+}
+
+/// A shelf that stands in memory. Of two objects with one name the first counts. It tells what it holds.
+#[derive(Drop)]
+pub struct MemoryShelf {
+    objects: Vec<NamedBytes>,
+    failing: Vec<u64>,
+    calls: u64,
+    faults: u64,
+    longs: u64,
+}
+
+impl Model for MemoryShelf {
+    ghost use Rattle.std.specs.Prelude.{map};
+    ghost use Rattle.outside.specs.Memory.{Shelved};
+
+    ghost Value = { Shelved };
+
+    ghost use Rattle.outside.specs.Named.{object_of};
+
+    ghost view = { λ s. record {
+      objects = map object_of s.objects.items;
+      failing = s.failing.items;
+      calls = s.calls;
+      faults = s.faults;
+      longs = s.longs;
+    } };
+}
+
+impl MemoryShelf {
+    ghost use Rattle.outside.specs.Named.{object_of};
+
+    /// The calls of `fetch` are numbered from 0, and those whose number is in `failing` fail.
+    pub fn new(objects: Vec<NamedBytes>, failing: Vec<u64>) -> MemoryShelf
+        ensures { result ≡ record {
+          objects = map object_of objects.items;
+          failing = failing.items;
+          calls = 0;
+          faults = 0;
+          longs = 0;
+        } }
+    {
+        MemoryShelf {
+            objects,
+            failing,
+            calls: 0,
+            faults: 0,
+            longs: 0,
+        }
+    }
+}
+
+impl Shelf for MemoryShelf {
+    ghost use Rattle.outside.specs.Memory.{bytes_of, FetchFails};
+
+    ghost told = { λ s. bytes_of s.objects };
+
+    ghost faults = { λ s. s.faults };
+
+    ghost longs = { λ s. s.longs };
+
+    ghost may = { λ _ _. Unit {0} };
+
+    fn fetch(
+        &mut self,
+        _alloc: Global,
+        name: &str,
+        limit: usize,
+        into: &mut Vec<u8>,
+    ) -> Result<(), FetchFault>
+        ensures fetched { Fetches (bytes_of self.old.objects name.now) limit self.old.faults self.new.faults
+            self.old.longs self.new.longs into.new.items result }
+
+        ensures fails { IsErrOf result FetchFault.Failed ↔ FetchFails self.old name.now }
+        ensures long { IsErrOf result FetchFault.TooLong ↔ ((FetchFails self.old name.now → ⊥) ×
+            IfSome (bytes_of self.old.objects name.now) (λ bytes. limit < length bytes)) }
+        ensures numbered { self.new.calls ≡ next_count self.old.calls }
+        ensures set_up { (self.new.objects ≡ self.old.objects) × (self.new.failing ≡ self.old.failing) }
+    {
+        into.clear();
+        let call = self.calls;
+        self.calls = call.saturating_add(1);
+        if self.failing.contains(&call) {
+            self.faults = self.faults.saturating_add(1);
+            return Err(FetchFault::Failed);
+        }
+        let Some(bytes) = find(self.objects.as_slice(), name) else {
+            self.faults = self.faults.saturating_add(1);
+            return Err(FetchFault::Failed);
+        };
+        if bytes.len() > limit {
+            self.longs = self.longs.saturating_add(1);
+            return Err(FetchFault::TooLong);
+        }
+        match into.extend_from_slice(bytes) {
+            Ok(()) => Ok(()),
+            Err(_) => Err(FetchFault::NoMemory),
+        }
+    }
+}
+
+/// The bytes of the first object with this name.
+fn find<'a>(objects: &'a [NamedBytes], name: &str) -> Option<&'a [u8]>
+    ensures { option_map (λ bytes. bytes.now) result ≡ bytes_of (map object_of objects.now) name.now }
+{
+    for object in objects {
+        if object.name.as_str() == name {
+            return Some(object.bytes.as_slice());
+        }
+    }
+    None
+}

@@ -1,0 +1,16 @@
+use Rattle.std.proofs.Common.{◌≡◌, List, length, ◌∙◌, ap, subst, arith}
+use Rattle.slot_grid.proofs.Images.{overwritten-is}
+use Rattle.pdcch_app.specs.declared.resources.Reg.{Reg}
+use Rattle.pdcch_app.specs.PointsOnGrid.{image_of}
+use Rattle.pdcch_app.specs.Placed.{AreRegsPut}
+use Rattle.pdcch_app.proofs.Ranks.{regs_done}
+use Rattle.pdcch_app.proofs.points.placing.put_bits.Goals as goal
+
+pub returns-clause-grid : goal.returns-clause-grid
+returns-clause-grid c =
+    let a = c.args in
+    let old = a.grid.now in
+    let new = c.put_regs.new.grid in
+    let put = subst (λ (regs : List Reg). AreRegsPut a.first a.id regs a.bits.now (length regs) old new) c.as_slice.ensures.value c.put_regs.ensures.places in
+    overwritten-is (image_of old.slot a.first a.id a.regs.now.items a.bits.now) old new put.mu put.frame put.slot put.blocks
+      (put.size ∙ c.put_regs.ensures.size) (regs_done a.first a.id a.regs.now.items a.bits.now old new put)

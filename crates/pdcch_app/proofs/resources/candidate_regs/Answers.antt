@@ -1,0 +1,24 @@
+use Rattle.std.proofs.Common.{◌≡◌, ◌+◌, ℕ, ◌<◌, ◌≤◌, List, [], ◌∷◌, ◌++◌, length, map, subst, sym, ◌∙◌, ap, arith}
+use Rattle.std.specs.List.{range_with_len}
+use Rattle.std.proofs.lemmas.List.FromFn.{map-range_with_len_more}
+use Rattle.pdcch_app.specs.declared.resources.Reg.{Reg}
+use Rattle.pdcch_app.proofs.FirstRegs.{reg_of_block, ListsFirst, first_lists}
+use Rattle.pdcch_app.proofs.resources.candidate_regs.Goals as goal
+
+pub returns : goal.returns
+returns c =
+    let all : c.loop-block.block ≡ 48 = omega arith in
+    let e = c.loop-block.invariant.regs ∙ ap (λ n. map reg_of_block (range_with_len 0 n)) all in
+    let h = subst ListsFirst (sym e) first_lists in
+    record { regs = h.regs; order = h.order; length = h.size; places = h.places }
+
+pub loop-block-preserved : goal.loop-block-preserved
+loop-block-preserved c =
+    let l = c.loop-block in
+    record {
+      size = c.push.ensures.len ∙ ap (λ n. n + 1) l.invariant.size;
+      regs =
+        c.push.ensures.items
+        ∙ ap (λ regs. regs ++ reg_of_block l.block ∷ []) l.invariant.regs
+        ∙ sym (map-range_with_len_more reg_of_block 0 l.block l.block (omega arith));
+    }

@@ -1,0 +1,1 @@
+//! The runs whose outputs come from outside.

@@ -1,0 +1,3 @@
+pub mod CodeLengths
+pub mod Words
+mod Columns

@@ -1,0 +1,21 @@
+-- Bits of a word.
+use Rattle.std.proofs.Common.{ℕ, ◌≡◌, ◌<◌, Bool, false, ◌&&◌, List, length, get_or, map, refl, ap, arith}
+use Rattle.std.specs.List.{range_with_len}
+use Rattle.std.proofs.lemmas.List.FromFn.{get_or-map-range_with_len, length-map-range_with_len}
+use Rattle.bits_core.specs.Bits.{bit_of}
+use Rattle.bits_core.proofs.Sums.{sum_below-same}
+use Rattle.polar_kernel.specs.MatrixWord.{contains_ones, word_at, matrix_word}
+
+-- a word depends on the bits below its length alone
+pub word_at-same : (n : ℕ) (u v : ℕ → Bool) (j : ℕ) → ((i : ℕ) → i < n → u i ≡ v i) → word_at n u j ≡ word_at n v j
+unfolding word_at
+word_at-same n u v j h =
+    sum_below-same n (λ i. contains_ones i j && u i) (λ i. contains_ones i j && v i) (λ i l. ap (λ (b : Bool). contains_ones i j && b) (h i l))
+
+pub length-matrix_word : (u : List Bool) → length (matrix_word u) ≡ length u
+unfolding matrix_word
+length-matrix_word u = length-map-range_with_len (word_at (length u) (bit_of u)) 0 (length u)
+
+pub bit_of-matrix_word : (u : List Bool) (j : ℕ) → j < length u → bit_of (matrix_word u) j ≡ word_at (length u) (bit_of u) j
+unfolding matrix_word
+bit_of-matrix_word u j l = get_or-map-range_with_len (word_at (length u) (bit_of u)) 0 (length u) j j false l (omega arith)
