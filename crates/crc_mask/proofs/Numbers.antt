@@ -1,13 +1,12 @@
 -- The register as a number of 24 bits.
 use Rattle.std.proofs.Common.{◌≡◌, ℕ, zero, suc, ◌+◌, ◌-◌, ◌*◌, ◌/◌, ◌%◌, ◌^◌, ◌<◌, ◌≤◌, min, Bool, true, false, not, ◌&&◌, eqb, List, length, take, replicate, ◌++◌, bit_and, bit_xor, refl, ap, sym, ◌∙◌, inl, inr, arith}
-use Rattle.std.specs.List.{range_with_len}
 use Rattle.std.specs.Int.{bit_at}
 use Rattle.std.specs.Bool.{beq}
 use Rattle.std.proofs.lemmas.Bool.{cases_lt}
 use Rattle.std.proofs.lemmas.List.{take_all, get_or_past, get_or-replicate, get_or_append_left, get_or-append_right, length-replicate}
-use Rattle.std.proofs.lemmas.List.FromFn.{length-map-range_with_len, get_or-map-range_with_len, fill_by_all}
+use Rattle.std.proofs.lemmas.List.FromFn.{fill_by_all}
 use Rattle.std.proofs.lemmas.Nat.{and_le_r}
-use Rattle.std.proofs.lemmas.Nat.Bits.{bit_at-lt, bit_at_xor, bit_at_and, bit_at_ones, bit_at_above, bit_at_cat_low, bit_at_cat_high, bit_at-zero, bit_at_lowest}
+use Rattle.std.proofs.lemmas.Nat.Bits.{bit_at-lt, bit_at_xor, bit_at_and, bit_at_ones, bit_at_above, bit_at_cat_low, bit_at_cat_high}
 use Rattle.bits_core.specs.Bits.{plus, bit_of, bits_of}
 use Rattle.bits_core.proofs.Numbers.{length-bits_of, get_or-bits_of}
 use Rattle.bits_core.proofs.Sums.{plus-false}

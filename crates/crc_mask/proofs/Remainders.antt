@@ -1,8 +1,8 @@
 -- The remainders of the powers of D.
-use Rattle.std.proofs.Common.{◌≡◌, ℕ, zero, suc, ◌+◌, ◌-◌, ◌<◌, ◌≤◌, Bool, false, ◌&&◌, length, refl, arith}
+use Rattle.std.proofs.Common.{◌≡◌, ℕ, zero, suc, ◌+◌, ◌<◌, ◌≤◌, false, ◌&&◌, length, refl, arith}
 use Rattle.std.proofs.lemmas.List.{get_or_past}
 use Rattle.std.proofs.lemmas.List.FromFn.{length-map-range_with_len, get_or-map-range_with_len}
-use Rattle.bits_core.specs.Bits.{plus, bit_of, bits_of}
+use Rattle.bits_core.specs.Bits.{plus, bit_of}
 use Rattle.bits_core.proofs.Numbers.{length-bits_of}
 use Rattle.crc_mask.specs.Parity.{generator, times_d, remainder}
 

@@ -1,5 +1,5 @@
 -- REGs of CCEs that were worked out apart from the definition.
-use Rattle.std.proofs.Common.{◌≡◌, ℕ, List, [], ◌∷◌, Some, None, refl}
+use Rattle.std.proofs.Common.{◌≡◌, ℕ, [], ◌∷◌, Some, None, refl}
 use Rattle.std.specs.List.{range_with_len}
 use Rattle.pdcch_app.specs.declared.resources.Reg.{Reg}
 use Rattle.pdcch_app.specs.ControlResources.{Resources, reg_of, bundle_of, interleaved, cce_regs}

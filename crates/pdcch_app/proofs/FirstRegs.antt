@@ -1,11 +1,11 @@
 -- The REGs of eight CCEs in a set of eight groups, one symbol long: blocks 0 to 47 of symbol 0.
-use Rattle.std.proofs.Common.{◌≡◌, ℕ, ◌+◌, ◌<◌, ◌≤◌, List, map, length, get_or, refl, sym, ◌∙◌, ap, subst, arith}
-use Rattle.std.specs.List.{range_with_len, filter, list_any}
+use Rattle.std.proofs.Common.{◌≡◌, ℕ, ◌<◌, List, map, length, refl, ap, arith}
+use Rattle.std.specs.List.{range_with_len}
 use Rattle.std.proofs.lemmas.List.FromFn.{get_or-map-range_with_len, length-map-range_with_len}
 use Rattle.pdcch_app.specs.declared.resources.Reg.{Reg}
 use Rattle.pdcch_app.specs.ControlResources.{reg_of, bundle_of, interleaved, cce_regs, cces_regs, all_regs, those_among, candidate_regs}
 use Rattle.pdcch_app.specs.FirstResources.{eight_groups}
-use Rattle.pdcch_app.specs.PointsOnGrid.{reg_at, Precedes, AreRegs}
+use Rattle.pdcch_app.specs.PointsOnGrid.{reg_at, AreRegs}
 
 -- the REG of a block in symbol 0
 abbrev pub reg_of_block : ℕ → Reg

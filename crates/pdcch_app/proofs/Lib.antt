@@ -11,6 +11,7 @@ pub mod CodingOfBlock
 mod CodingValues
 pub mod RegPuts
 pub mod Ranks
+pub mod ImagesOnGrid
 pub mod Scrambles
 mod CceRows
 mod FirstRegs

@@ -1,5 +1,5 @@
 -- Which REG a place is in, and the grid on which all REGs are written.
-use Rattle.std.proofs.Common.{◌≡◌, ℕ, zero, suc, ◌+◌, ◌*◌, ◌/◌, ◌%◌, ◌<◌, ◌≤◌, Bool, true, false, ◌&&◌, ◌==◌, cond, List, [], ◌∷◌, Option, Some, None, option_map, unwrap_or, length, ◌⊎◌, inl, inr, refl, sym, ◌∙◌, ap, arith}
+use Rattle.std.proofs.Common.{◌≡◌, ℕ, zero, suc, ◌+◌, ◌*◌, ◌/◌, ◌%◌, ◌<◌, Bool, true, false, ◌&&◌, ◌==◌, cond, List, [], ◌∷◌, Some, None, option_map, unwrap_or, length, ◌⊎◌, inl, inr, refl, sym, ◌∙◌, ap, arith}
 use Rattle.std.proofs.lemmas.Bool.Decides.{nat_tests}
 use Rattle.slot_grid.specs.declared.places.Point.{Point}
 use Rattle.slot_grid.specs.Grid.{GridValue, point_at}
@@ -66,7 +66,7 @@ none_is first reg regs symbol block e h = record {
   apart = apart_each first reg regs symbol block (not_both (first + reg.symbol) symbol reg.block block e) h.apart;
 }
 
-abbrev RankCases : ℕ → List Reg → ℕ → ℕ → Type 0
+abbrev pub RankCases : ℕ → List Reg → ℕ → ℕ → Type 0
 RankCases first regs symbol block = IsNowhere first regs symbol block ⊎ ((j : ℕ) × IsRank first regs symbol block j)
 
 rank_more : (first : ℕ) (reg : Reg) (regs : List Reg) (symbol block : ℕ) (t : Bool)
@@ -91,13 +91,13 @@ regs_done first id regs bits old new h s c k l =
     let point : ℕ → Point = λ j. reg_point old.slot s id (c / 12) bits j (c % 12) in
     let was = point_at old s c in
     elim (rank_cases first regs s (c / 12)) [
-      inl n ↦ h.others s c l n.apart ∙ sym (ap (λ o. unwrap_or (option_map point o) was) n.none)
-    | inr (j, r) ↦
-        ap (λ m. point_at new s m) (sym here)
-        ∙ ap (λ b. point_at new s (12 * b + c % 12)) (sym r.block_is)
-        ∙ ap (λ m. point_at new m (12 * (reg_at regs j).block + c % 12)) (sym r.symbol_is)
-        ∙ h.there j (c % 12) r.below (omega arith)
-        ∙ ap (λ m. reg_point old.slot m id (reg_at regs j).block bits j (c % 12)) r.symbol_is
-        ∙ ap (λ b. reg_point old.slot s id b bits j (c % 12)) r.block_is
-        ∙ sym (ap (λ o. unwrap_or (option_map point o) was) r.some)
+      | inl n ↦ h.others s c l n.apart ∙ sym (ap (λ o. unwrap_or (option_map point o) was) n.none)
+      | inr (j, r) ↦
+          ap (λ m. point_at new s m) (sym here)
+          ∙ ap (λ b. point_at new s (12 * b + c % 12)) (sym r.block_is)
+          ∙ ap (λ m. point_at new m (12 * (reg_at regs j).block + c % 12)) (sym r.symbol_is)
+          ∙ h.there j (c % 12) r.below (omega arith)
+          ∙ ap (λ m. reg_point old.slot m id (reg_at regs j).block bits j (c % 12)) r.symbol_is
+          ∙ ap (λ b. reg_point old.slot s id b bits j (c % 12)) r.block_is
+          ∙ sym (ap (λ o. unwrap_or (option_map point o) was) r.some)
     ]

@@ -1,5 +1,5 @@
 -- Two bits that follow each other in the sequence make a reference point.
-use Rattle.std.proofs.Common.{◌≡◌, ℕ, ◌+◌, ◌*◌, Bool, sym, ◌∙◌, ap}
+use Rattle.std.proofs.Common.{◌≡◌, ℕ, ◌+◌, ◌*◌, Bool, ◌∙◌, ap}
 use Rattle.gold_scrambler.specs.Gold.{GoldValue, gold}
 use Rattle.pdcch_app.specs.Modulation.{point_of}
 use Rattle.pdcch_app.specs.ReferencePoints.{sequence_point}

@@ -1,9 +1,9 @@
 -- The points of REGs are written one after another.
-use Rattle.std.proofs.Common.{◌≡◌, ℕ, ◌+◌, ◌*◌, ◌/◌, ◌<◌, ◌≤◌, Bool, List, length, refl, sym, ◌∙◌, ap, arith, below_more}
+use Rattle.std.proofs.Common.{◌≡◌, ℕ, ◌+◌, ◌*◌, ◌<◌, Bool, List, length, refl, sym, ◌∙◌, ap, arith, below_more}
 use Rattle.slot_grid.specs.declared.places.Point.{Point}
 use Rattle.slot_grid.specs.Grid.{GridValue, IsPut, point_at}
 use Rattle.pdcch_app.specs.declared.resources.Reg.{Reg}
-use Rattle.pdcch_app.specs.PointsOnGrid.{reg_at, reg_point, Precedes, AreRegs, AreInside}
+use Rattle.pdcch_app.specs.PointsOnGrid.{reg_at, reg_point, AreRegs, AreInside}
 use Rattle.pdcch_app.specs.Placed.{IsRegPut, AreRegsPut}
 
 pub put-none : (symbol id block : ℕ) (bits : List Bool) (j : ℕ) (grid : GridValue) → IsRegPut symbol id block bits j 0 grid grid
@@ -27,10 +27,10 @@ put-more symbol id block bits j k point old mid new h put is in_grid small = rec
   blocks = put.blocks ∙ h.blocks;
   size = put.size ∙ h.size;
   there = below_more (λ i. point_at new symbol (12 * block + i) ≡ reg_point old.slot symbol id block bits j i) k
-    (λ i l. put.others symbol (12 * block + i) (omega (arith, h.blocks)) (λ _ e. omega arith) ∙ h.there i l) (put.there ∙ is);
+      (λ i l. put.others symbol (12 * block + i) (omega (arith, h.blocks)) (λ _ e. omega arith) ∙ h.there i l) (put.there ∙ is);
   others = λ s c l other.
-    put.others s c (omega (arith, h.blocks)) (λ e f. other e (omega arith) (omega arith))
-    ∙ h.others s c l (λ e m n. other e m (omega arith));
+      put.others s c (omega (arith, h.blocks)) (λ e f. other e (omega arith) (omega arith))
+      ∙ h.others s c l (λ e m n. other e m (omega arith));
 }
 
 pub no_regs : (first id : ℕ) (regs : List Reg) (bits : List Bool) (grid : GridValue) → AreRegsPut first id regs bits 0 grid grid
@@ -62,16 +62,16 @@ one_reg_more first id regs bits n old mid new apart inside l h put =
       blocks = put.blocks ∙ h.blocks;
       size = put.size ∙ h.size;
       there = λ j i m k.
-        below_more
+          below_more
           (λ j. point_at new (first + (reg_at regs j).symbol) (12 * (reg_at regs j).block + i) ≡ reg_point old.slot (first + (reg_at regs j).symbol) id (reg_at regs j).block bits j i)
           n
           (λ j m.
-            put.others (first + (reg_at regs j).symbol) (12 * (reg_at regs j).block + i) (omega (arith, h.blocks, (inside j (omega arith)).1))
-              (λ e a b. reg_apart regs j n apart m l (omega arith) (omega arith))
-            ∙ h.there j i m k)
+          put.others (first + (reg_at regs j).symbol) (12 * (reg_at regs j).block + i) (omega (arith, h.blocks, (inside j (omega arith)).1))
+          (λ e a b. reg_apart regs j n apart m l (omega arith) (omega arith))
+          ∙ h.there j i m k)
           (put.there i k ∙ ap (λ slot. reg_point slot (first + reg.symbol) id reg.block bits n i) h.slot)
           j m;
       others = λ s c k other.
-        put.others s c (omega (arith, h.blocks)) (λ e a b. other n (omega arith) (sym e) (omega arith))
-        ∙ h.others s c k (λ j m. other j (omega arith));
+          put.others s c (omega (arith, h.blocks)) (λ e a b. other n (omega arith) (sym e) (omega arith))
+          ∙ h.others s c k (λ j m. other j (omega arith));
     }

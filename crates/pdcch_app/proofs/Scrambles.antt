@@ -1,5 +1,5 @@
 -- Bits that are added to the sequence one after another, and twice.
-use Rattle.std.proofs.Common.{◌≡◌, ℕ, ◌+◌, ◌<◌, Bool, true, false, not, List, [], ◌∷◌, ◌++◌, length, map, get_or, refl, sym, ◌∙◌, ap, arith}
+use Rattle.std.proofs.Common.{◌≡◌, ℕ, ◌+◌, ◌<◌, Bool, true, false, not, List, [], ◌∷◌, ◌++◌, length, map, refl, sym, ◌∙◌, ap, arith}
 use Rattle.std.specs.Bool.{beq}
 use Rattle.std.specs.List.{range_with_len}
 use Rattle.std.proofs.lemmas.List.{same_lists, get_or_default}
@@ -23,7 +23,7 @@ scrambled-more c_init bits sum at new a b e f g h =
     f
     ∙ ap (λ s. s ++ not (beq a b) ∷ []) e
     ∙ ap (λ x. map (scrambled_bit c_init bits) (range_with_len 0 at) ++ x ∷ [])
-      (differ-plus a b ∙ ap (λ x. plus x b) g ∙ ap (plus (bit_of bits at)) h)
+    (differ-plus a b ∙ ap (λ x. plus x b) g ∙ ap (plus (bit_of bits at)) h)
     ∙ sym (map-range_with_len_more (scrambled_bit c_init bits) 0 at at (omega arith))
 
 pub length-scrambled : (c_init : ℕ) (bits : List Bool) → length (scrambled c_init bits) ≡ length bits
@@ -43,13 +43,13 @@ pub scrambled_twice : (c_init : ℕ) (bits : List Bool) → scrambled c_init (sc
 scrambled_twice c_init bits =
     let once = scrambled c_init bits in
     same_lists (scrambled c_init once) bits (length-scrambled c_init once ∙ length-scrambled c_init bits) (λ k d h.
-      let l : k < length once = omega (arith, length-scrambled c_init once) in
-      let m : k < length bits = omega (arith, length-scrambled c_init bits) in
-      get_or_default (scrambled c_init once) k d false h
-      ∙ bit_of-scrambled c_init once k l
-      ∙ ap (λ b. plus b (gold c_init k)) (bit_of-scrambled c_init bits k m)
-      ∙ plus_twice (bit_of bits k) (gold c_init k)
-      ∙ get_or_default bits k false d m)
+    let l : k < length once = omega (arith, length-scrambled c_init once) in
+    let m : k < length bits = omega (arith, length-scrambled c_init bits) in
+    get_or_default (scrambled c_init once) k d false h
+    ∙ bit_of-scrambled c_init once k l
+    ∙ ap (λ b. plus b (gold c_init k)) (bit_of-scrambled c_init bits k m)
+    ∙ plus_twice (bit_of bits k) (gold c_init k)
+    ∙ get_or_default bits k false d m)
 
 -- bits are told by what they are scrambled to
 pub scrambled_once : (c_init : ℕ) (a b : List Bool) → scrambled c_init a ≡ scrambled c_init b → a ≡ b

@@ -48,7 +48,8 @@ unfoldable pub bundle_of : Resources → ℕ → List Reg
 bundle_of resources i =
     let size = bundle_size resources.interleaver in map (reg_of resources) (range_with_len (i * size) size)
 
--- the bundle in place x. Of `count` REGs the interleaver takes bundles in by rows and gives them out by columns, shifted
+-- the bundle that comes at place x, of a set of `count` REGs: place column * rows + row has bundle row * columns + column,
+-- shifted round the set
 unfoldable pub interleaved : Option Interleaver → ℕ → ℕ → ℕ
 interleaved None count x = x
 interleaved (Some i) count x =
@@ -59,7 +60,7 @@ unfoldable pub cce_regs : Resources → ℕ → List Reg
 cce_regs resources j =
     let size = bundle_size resources.interleaver in
     flat_map (λ k. bundle_of resources (interleaved resources.interleaver (reg_count resources) (6 * j / size + k)))
-      (range_with_len 0 (6 / size))
+    (range_with_len 0 (6 / size))
 
 -- the REGs of `level` CCEs from CCE `start` on, CCE by CCE
 unfoldable pub cces_regs : Resources → ℕ → ℕ → List Reg
@@ -70,6 +71,7 @@ unfoldable pub all_regs : Resources → List Reg
 all_regs resources =
     flat_map (λ s. map (λ b. record { symbol = s; block = b }) (blocks_of resources)) (range_with_len 0 resources.duration)
 
+-- whether two REGs are the same
 abbrev pub is_reg : Reg → Reg → Bool
 is_reg a b = (a.symbol == b.symbol) && (a.block == b.block)
 

@@ -22,6 +22,6 @@ pub record AreRegsPut (first id : ℕ) (regs : List Reg) (bits : List Bool) (n :
   pub blocks : new.blocks ≡ old.blocks
   pub size : length new.points ≡ length old.points
   pub there : (j i : ℕ) → j < n → i < 12
-    → point_at new (first + (reg_at regs j).symbol) (12 * (reg_at regs j).block + i) ≡ reg_point old.slot (first + (reg_at regs j).symbol) id (reg_at regs j).block bits j i
+      → point_at new (first + (reg_at regs j).symbol) (12 * (reg_at regs j).block + i) ≡ reg_point old.slot (first + (reg_at regs j).symbol) id (reg_at regs j).block bits j i
   pub others : (s c : ℕ) → c < 12 * old.blocks → ((j : ℕ) → j < n → first + (reg_at regs j).symbol ≡ s → (reg_at regs j).block ≡ c / 12 → ⊥)
-    → point_at new s c ≡ point_at old s c
+      → point_at new s c ≡ point_at old s c

@@ -25,7 +25,7 @@ data_rank k = k - (k + 2) / 4
 unfoldable pub reg_point : ℕ → ℕ → ℕ → ℕ → List Bool → ℕ → ℕ → Point
 reg_point slot symbol id block bits j k =
     cond (is_reference k) (reference slot symbol id block (k / 4))
-      (point_of (bit_of bits (18 * j + 2 * data_rank k)) (bit_of bits (18 * j + 2 * data_rank k + 1)))
+    (point_of (bit_of bits (18 * j + 2 * data_rank k)) (bit_of bits (18 * j + 2 * data_rank k + 1)))
 
 -- which REG of a list is in a symbol of the slot and a block, where one is; symbols of REGs are counted from `first` on
 unfoldable pub rank_in : ℕ → List Reg → ℕ → ℕ → Option ℕ

@@ -56,15 +56,7 @@ fn put_reg(grid: &mut Grid, symbol: u8, id: u16, block: u16, bits: &Coded, j: us
 
 /// The point at subcarrier `k` of REG `j`.
 #[tactic(auto, unfolding(crate::specs::PointsOnGrid::reg_point))]
-fn point_in_reg(
-    slot: u16,
-    symbol: u8,
-    id: u16,
-    block: u16,
-    bits: &Coded,
-    j: usize,
-    k: u8,
-) -> Point
+fn point_in_reg(slot: u16, symbol: u8, id: u16, block: u16, bits: &Coded, j: usize, k: u8) -> Point
     requires slot { slot < 80 }
     requires symbol { symbol < 14 }
     requires block { block < 275 }

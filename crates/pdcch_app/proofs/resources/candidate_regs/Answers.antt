@@ -1,7 +1,6 @@
-use Rattle.std.proofs.Common.{◌≡◌, ◌+◌, ℕ, ◌<◌, ◌≤◌, List, [], ◌∷◌, ◌++◌, length, map, subst, sym, ◌∙◌, ap, arith}
+use Rattle.std.proofs.Common.{◌≡◌, ◌+◌, [], ◌∷◌, ◌++◌, map, subst, sym, ◌∙◌, ap, arith}
 use Rattle.std.specs.List.{range_with_len}
 use Rattle.std.proofs.lemmas.List.FromFn.{map-range_with_len_more}
-use Rattle.pdcch_app.specs.declared.resources.Reg.{Reg}
 use Rattle.pdcch_app.proofs.FirstRegs.{reg_of_block, ListsFirst, first_lists}
 use Rattle.pdcch_app.proofs.resources.candidate_regs.Goals as goal
 
@@ -18,7 +17,7 @@ loop-block-preserved c =
     record {
       size = c.push.ensures.len ∙ ap (λ n. n + 1) l.invariant.size;
       regs =
-        c.push.ensures.items
-        ∙ ap (λ regs. regs ++ reg_of_block l.block ∷ []) l.invariant.regs
-        ∙ sym (map-range_with_len_more reg_of_block 0 l.block l.block (omega arith));
+          c.push.ensures.items
+          ∙ ap (λ regs. regs ++ reg_of_block l.block ∷ []) l.invariant.regs
+          ∙ sym (map-range_with_len_more reg_of_block 0 l.block l.block (omega arith));
     }

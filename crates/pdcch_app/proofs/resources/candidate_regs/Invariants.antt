@@ -6,5 +6,5 @@ use Rattle.pdcch_app.proofs.resources.candidate_regs.Given as goal
 abbrev pub invariant-loop-block : goal.invariant-loop-block
 invariant-loop-block l = record {
   size : length l.regs.items ≡ l.block;
-  regs : l.regs.items ≡ map reg_of_block (range_with_len 0 l.block)
+  regs : l.regs.items ≡ map reg_of_block (range_with_len 0 l.block);
 }

@@ -1,4 +1,4 @@
-use Rattle.std.proofs.Common.{◌≡◌, List, length, ◌∙◌, ap, subst, arith}
+use Rattle.std.proofs.Common.{List, length, ◌∙◌, subst}
 use Rattle.slot_grid.proofs.Images.{overwritten-is}
 use Rattle.pdcch_app.specs.declared.resources.Reg.{Reg}
 use Rattle.pdcch_app.specs.PointsOnGrid.{image_of}
@@ -13,4 +13,4 @@ returns-clause-grid c =
     let new = c.put_regs.new.grid in
     let put = subst (λ (regs : List Reg). AreRegsPut a.first a.id regs a.bits.now (length regs) old new) c.as_slice.ensures.value c.put_regs.ensures.places in
     overwritten-is (image_of old.slot a.first a.id a.regs.now.items a.bits.now) old new put.mu put.frame put.slot put.blocks
-      (put.size ∙ c.put_regs.ensures.size) (regs_done a.first a.id a.regs.now.items a.bits.now old new put)
+    (put.size ∙ c.put_regs.ensures.size) (regs_done a.first a.id a.regs.now.items a.bits.now old new put)

@@ -1,5 +1,5 @@
-use Rattle.std.proofs.Common.{◌≡◌, ℕ, ◌+◌, ◌*◌, ◌∙◌, ap, subst, arith}
-use Rattle.slot_grid.specs.Grid.{GridValue, IsPut}
+use Rattle.std.proofs.Common.{◌+◌, ◌*◌, ◌∙◌, ap}
+use Rattle.slot_grid.specs.Grid.{IsPut}
 use Rattle.pdcch_app.specs.PointsOnGrid.{reg_point}
 use Rattle.pdcch_app.proofs.RegPuts.{put-more}
 use Rattle.pdcch_app.proofs.points.placing.put_reg.Goals as goal
@@ -10,4 +10,4 @@ loop-k-preserved c =
     let put : IsPut a.symbol (12 * a.block + c.loop-k.k) c.point_in_reg-point.result c.loop-k.grid c.put.new.self = rw (← c.from.ensures) c.put.ensures.places in
     let point = c.point_in_reg-point.ensures ∙ ap (λ slot. reg_point slot a.symbol a.id a.block a.bits.now a.j c.loop-k.k) c.slot-slot.ensures.value in
     put-more a.symbol a.id a.block a.bits.now a.j c.loop-k.k c.point_in_reg-point.result a.grid.now c.loop-k.grid c.put.new.self c.loop-k.invariant
-      put point c.requires.block c.loop-k-test.true
+    put point c.requires.block c.loop-k-test.true

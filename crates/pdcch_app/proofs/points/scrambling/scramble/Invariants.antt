@@ -8,5 +8,5 @@ invariant-loop-at l = record {
   start : l.gold.c_init ≡ l.c_init;
   place : l.gold.at ≡ l.at;
   size : length l.sum ≡ l.at;
-  sums : l.sum ≡ map (scrambled_bit l.c_init l.bits) (range_with_len 0 l.at)
+  sums : l.sum ≡ map (scrambled_bit l.c_init l.bits) (range_with_len 0 l.at);
 }
