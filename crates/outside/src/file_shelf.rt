@@ -28,6 +28,7 @@ impl<'a, R> Model for FileShelf<'a, R> {
 }
 
 impl<'a, R: Files> FileShelf<'a, R> {
+    /// A shelf of the runtime's files, by their paths. A file that is missing or can't be read is a fault.
     pub fn new(rt: &'a R) -> FileShelf<'a, R>
         ensures { result ≡ record { faults = 0; longs = 0 } }
     {

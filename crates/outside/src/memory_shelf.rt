@@ -46,7 +46,8 @@ impl Model for MemoryShelf {
 impl MemoryShelf {
     ghost use Rattle.outside.specs.Named.{object_of};
 
-    /// The calls of `fetch` are numbered from 0, and those whose number is in `failing` fail.
+    /// The calls of `fetch` are numbered from 0, and those whose number is in `failing` fail, as do those for a
+    /// name that no object has.
     pub fn new(objects: Vec<NamedBytes>, failing: Vec<u64>) -> MemoryShelf
         ensures { result ≡ record {
           objects = map object_of objects.items;

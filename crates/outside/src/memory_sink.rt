@@ -1,12 +1,12 @@
 ghost use Rattle.std.specs.Prelude.{◌≡◌, ◌≢◌, ◌<◌, ◌≤◌, ◌↔◌, ◌++◌, ℕ, [], List, Some, take, length, IfOk, OnOk, OnErr, IsErr, Ok, Err};
 ghost use Rattle.outside.specs.Causes.{Rose, next_count};
-ghost use Rattle.outside.specs.Taken.{Takes};
 
 use crate::{Failed, Sink, SinkFault};
 use std::alloc::Global;
 use std::marker::Model;
 
-/// A sink that stands in memory, with room for a number of bytes that it sets aside at once. It tells what it took.
+/// A sink that stands in memory, with room for a number of bytes that is set aside when it is made, so that `put`
+/// takes no memory. It tells what it took.
 #[derive(Drop)]
 pub struct MemorySink {
     bytes: Vec<u8>,
@@ -37,7 +37,12 @@ impl Model for MemorySink {
 
 impl MemorySink {
     /// A sink with room for `room` bytes, which takes at most `width` at once. The calls of `put` with a piece
-    /// that isn't empty are numbered from 0, and those whose number is in `failing` fail.
+    /// that isn't empty are numbered from 0, and those whose number is in `failing` fail, as do those that find
+    /// no room left.
+    ///
+    /// # Errors
+    ///
+    /// `NoMemory` where the room can't be set aside.
     pub fn new(
         alloc: Global,
         room: usize,
@@ -86,8 +91,8 @@ impl Sink for MemorySink {
         ensures empty { piece.now ≡ [] → result ≡ Ok 0 }
         ensures some { piece.now ≢ [] → IfOk result (λ n. 1 ≤ n) }
         ensures within { IfOk result (λ n. n ≤ length piece.now) }
-        ensures takes { IfOk result (λ n. Takes (Some self.old.bytes) (Some self.new.bytes) (take n piece.now)) }
-        ensures refused { OnErr result (Some self.new.bytes ≡ Some self.old.bytes) }
+        ensures takes { IfOk result (λ n. self.new.bytes ≡ self.old.bytes ++ take n piece.now) }
+        ensures refused { OnErr result (self.new.bytes ≡ self.old.bytes) }
         ensures failed { OnErr result (Rose self.old.faults self.new.faults) }
         ensures kept { OnOk result (self.new.faults ≡ self.old.faults) }
         ensures later { self.old.faults ≤ self.new.faults }
@@ -96,7 +101,8 @@ impl Sink for MemorySink {
         ensures share { IfOk result (λ n. n ≡ share_of self.old piece.now) }
         ensures numbered { piece.now ≢ [] → self.new.calls ≡ next_count self.old.calls }
         ensures unnumbered { piece.now ≡ [] → self.new.calls ≡ self.old.calls }
-        ensures set_up { (self.new.room ≡ self.old.room) × (self.new.width ≡ self.old.width) × (self.new.failing ≡ self.old.failing) }
+        ensures set_up { (self.new.room ≡ self.old.room) × (self.new.width ≡ self.old.width) ×
+            (self.new.failing ≡ self.old.failing) }
     {
         if piece.is_empty() {
             return Ok(0);

@@ -21,6 +21,7 @@ impl<W> Model for StdSink<W> {
 }
 
 impl<W: Write + Drop> StdSink<W> {
+    /// A sink over this writer. A write that fails, or takes nothing, is a fault.
     pub fn new(writer: W) -> StdSink<W>
         ensures { result ≡ 0 }
     {

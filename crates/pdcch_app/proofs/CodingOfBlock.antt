@@ -1,18 +1,17 @@
 -- The code of a block of 63 bits that is sent in 864, by the word that the code's steps leave.
-use Rattle.std.proofs.Common.{ℕ, ◌≡◌, ◌+◌, ◌%◌, ◌<◌, Bool, List, length, get_or, refl, ap, sym, ◌∙◌, arith}
-use Rattle.std.specs.Prelude.{IsTrue}
-use Rattle.std.proofs.Math.Nat.{mod-lt}
+use Rattle.std.proofs.Common.{ℕ, ◌≡◌, ◌<◌, Bool, List, length, refl, ap, sym, ◌∙◌, arith}
 use Rattle.bits_core.specs.Bits.{bit_of}
 use Rattle.polar_kernel.specs.MatrixWord.{matrix_word, word_at}
 use Rattle.polar_kernel.proofs.Words.{bit_of-matrix_word, word_at-same}
+use Rattle.pdcch_app.specs.AscendingTable.{ascending}
 use Rattle.pdcch_app.specs.BlockOrder.{position_at}
-use Rattle.pdcch_app.specs.CodeOfBlock.{ascending, code_by, code_of, laid}
+use Rattle.pdcch_app.specs.CodeOfBlock.{code_by, code_of, laid}
 use Rattle.pdcch_app.specs.InformationPositions.{information, is_in}
 use Rattle.pdcch_app.specs.InputOrder.{interleaved, order_from}
 use Rattle.pdcch_app.specs.MotherCode.{length_of, powers_below}
 use Rattle.pdcch_app.specs.RateMatching.{selected, sent_place}
 use Rattle.pdcch_app.proofs.CodingPlaces.{position_below}
-use Rattle.pdcch_app.proofs.CodingSelection.{selected-same, length-selected, sent_place-repeated}
+use Rattle.pdcch_app.proofs.CodingSelection.{selected-same, length-selected}
 
 abbrev input_bits : List Bool → ℕ → Bool
 input_bits c = laid (is_in (information (ascending 1024) 512 63 864)) (interleaved (order_from (ascending 164) 63) c)

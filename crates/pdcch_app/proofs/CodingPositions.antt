@@ -1,5 +1,5 @@
 -- With tables in ascending order, 63 bits that are sent in 864 stand in their own order at the last 63 of 512 positions.
-use Rattle.std.proofs.Common.{ℕ, ◌≡◌, ◌+◌, ◌-◌, ◌<◌, ◌≤◌, zero, suc, Bool, true, false, ◌&&◌, List, length, map, refl, ap, subst, sym, replicate, get_or, ◌∙◌, arith, add-suc, add-zero, ◌⊎◌, inl, inr}
+use Rattle.std.proofs.Common.{ℕ, ◌≡◌, ◌+◌, ◌-◌, ◌<◌, ◌≤◌, zero, suc, Bool, true, false, List, length, map, refl, ap, subst, sym, replicate, ◌∙◌, arith, add-suc, add-zero, inl, inr}
 use Rattle.std.specs.Prelude.{◌==◌, ◌||◌}
 use Rattle.std.specs.List.{range_with_len}
 use Rattle.std.proofs.lemmas.Bool.{cases_lt, eq-eqb}
@@ -7,8 +7,8 @@ use Rattle.std.proofs.lemmas.Bool.Decides.{eqb_tells}
 use Rattle.std.proofs.lemmas.List.{get_or-replicate}
 use Rattle.std.proofs.lemmas.List.FromFn.{fill_by_all}
 use Rattle.bits_core.specs.Bits.{bit_of}
-use Rattle.pdcch_app.specs.BlockOrder.{position_at}
-use Rattle.pdcch_app.specs.CodeOfBlock.{ascending, count_below, laid}
+use Rattle.pdcch_app.specs.AscendingTable.{ascending}
+use Rattle.pdcch_app.specs.CodeOfBlock.{count_below, laid}
 use Rattle.pdcch_app.specs.FrozenPlaces.{is_free, is_frozen}
 use Rattle.pdcch_app.specs.InformationPositions.{free_positions, information, is_in}
 use Rattle.pdcch_app.specs.InputOrder.{interleaved, order_from}

@@ -1,10 +1,12 @@
 -- Values of the definitions of the code, worked out elsewhere.
-use Rattle.std.proofs.Common.{ℕ, ◌≡◌, ◌+◌, ◌-◌, ◌*◌, ◌%◌, Bool, true, false, List, [], ◌∷◌, length, map, refl}
-use Rattle.std.specs.List.{range_with_len, sum}
+use Rattle.std.proofs.Common.{ℕ, ◌≡◌, ◌+◌, ◌-◌, ◌*◌, ◌%◌, true, false, List, [], ◌∷◌, length, map, refl}
+use Rattle.std.specs.Prelude.{slice_index}
+use Rattle.std.specs.List.{filter, range_with_len, sum}
 use Rattle.bits_core.specs.Bits.{sum_below}
 use Rattle.polar_kernel.specs.MatrixWord.{contains_ones, word_at}
+use Rattle.pdcch_app.specs.AscendingTable.{ascending}
 use Rattle.pdcch_app.specs.BlockOrder.{position_at}
-use Rattle.pdcch_app.specs.CodeOfBlock.{ascending, code_by, code_of, count_below, laid}
+use Rattle.pdcch_app.specs.CodeOfBlock.{code_by, code_of, count_below, laid}
 use Rattle.pdcch_app.specs.FrozenPlaces.{is_frozen, is_free, stands_within}
 use Rattle.pdcch_app.specs.InformationPositions.{information, free_positions}
 use Rattle.pdcch_app.specs.InputOrder.{order_from, interleaved}
@@ -21,6 +23,14 @@ spread_reliability = map (λ i. (37 * i + 11) % 1024) (range_with_len 0 1024)
 abbrev spread_input : List ℕ
 spread_input = map (λ i. (45 * i + 3) % 164) (range_with_len 0 164)
 
+-- the first and the last of 63 positions, and their sum
+abbrev ends_and_sum : List ℕ → List ℕ
+ends_and_sum xs = slice_index xs 0 ∷ slice_index xs 62 ∷ sum xs ∷ []
+
+-- how many positions are frozen first, and their sum
+count_and_sum : ℕ → ℕ → ℕ → List ℕ
+count_and_sum n k e = let frozen = filter (is_frozen n k e) (range_with_len 0 n) in length frozen ∷ sum frozen ∷ []
+
 order_of_32 : map (position_at 32) (range_with_len 0 32) ≡ 0 ∷ 1 ∷ 2 ∷ 4 ∷ 3 ∷ 5 ∷ 6 ∷ 7 ∷ 8 ∷ 16 ∷ 9 ∷ 17 ∷ 10 ∷ 18 ∷ 11 ∷ 19 ∷ 12 ∷ 20 ∷ 13 ∷ 21 ∷ 14 ∷ 22 ∷ 15 ∷ 23 ∷ 24 ∷ 25 ∷ 26 ∷ 28 ∷ 27 ∷ 29 ∷ 30 ∷ 31 ∷ []
 unfolding position_at
 order_of_32 = refl
@@ -33,11 +43,39 @@ lengths : length_of 63 108 ∷ length_of 63 216 ∷ length_of 63 160 ∷ length_
 unfolding length_of powers_below
 lengths = refl
 
-shortened_ascending : sum (information (ascending 1024) 128 63 108) ≡ 4788
+frozen_of_63_in_108 : count_and_sum 128 63 108 ≡ 20 ∷ 2350 ∷ []
+unfolding count_and_sum is_frozen stands_within position_at
+frozen_of_63_in_108 = refl
+
+frozen_of_63_in_216 : count_and_sum 256 63 216 ≡ 84 ∷ 3486 ∷ []
+unfolding count_and_sum is_frozen stands_within position_at
+frozen_of_63_in_216 = refl
+
+frozen_of_63_in_160 : count_and_sum 256 63 160 ≡ 120 ∷ 7524 ∷ []
+unfolding count_and_sum is_frozen stands_within position_at
+frozen_of_63_in_160 = refl
+
+frozen_of_81_in_144 : count_and_sum 256 81 144 ≡ 112 ∷ 21384 ∷ []
+unfolding count_and_sum is_frozen stands_within position_at
+frozen_of_81_in_144 = refl
+
+frozen_of_63_in_864 : count_and_sum 512 63 864 ≡ 0 ∷ 0 ∷ []
+unfolding count_and_sum is_frozen stands_within position_at
+frozen_of_63_in_864 = refl
+
+frozen_of_4_in_24 : count_and_sum 32 4 24 ≡ 12 ∷ 66 ∷ []
+unfolding count_and_sum is_frozen stands_within position_at
+frozen_of_4_in_24 = refl
+
+frozen_of_1_in_1 : count_and_sum 32 1 1 ≡ 31 ∷ 496 ∷ []
+unfolding count_and_sum is_frozen stands_within position_at
+frozen_of_1_in_1 = refl
+
+shortened_ascending : ends_and_sum (information (ascending 1024) 128 63 108) ≡ 45 ∷ 107 ∷ 4788 ∷ []
 unfolding information free_positions is_free is_frozen stands_within position_at
 shortened_ascending = refl
 
-shortened_descending : sum (information (descending 1024) 128 63 108) ≡ 1953
+shortened_descending : ends_and_sum (information (descending 1024) 128 63 108) ≡ 62 ∷ 0 ∷ 1953 ∷ []
 unfolding information free_positions is_free is_frozen stands_within position_at
 shortened_descending = refl
 
@@ -45,11 +83,11 @@ shortened_spread : sum (information spread_reliability 128 63 108) ≡ 3336
 unfolding information free_positions is_free is_frozen stands_within position_at
 shortened_spread = refl
 
-information_ascending : sum (information (ascending 1024) 512 63 864) ≡ 30240
+information_ascending : ends_and_sum (information (ascending 1024) 512 63 864) ≡ 449 ∷ 511 ∷ 30240 ∷ []
 unfolding information free_positions is_free is_frozen stands_within position_at
 information_ascending = refl
 
-information_descending : sum (information (descending 1024) 512 63 864) ≡ 1953
+information_descending : ends_and_sum (information (descending 1024) 512 63 864) ≡ 62 ∷ 0 ∷ 1953 ∷ []
 unfolding information free_positions is_free is_frozen stands_within position_at
 information_descending = refl
 

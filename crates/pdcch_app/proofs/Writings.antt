@@ -7,7 +7,8 @@ use Rattle.pdcch_app.specs.declared.first_cell.FirstCell.{FirstCell}
 use Rattle.pdcch_app.specs.declared.first_grant.FirstGrant.{FirstGrant}
 use Rattle.pdcch_app.specs.declared.resources.Reg.{Reg}
 use Rattle.pdcch_app.specs.BlockImage.{block_image}
-use Rattle.pdcch_app.specs.CodeOfBlock.{ascending, code_by}
+use Rattle.pdcch_app.specs.AscendingTable.{ascending}
+use Rattle.pdcch_app.specs.CodeOfBlock.{code_by}
 use Rattle.pdcch_app.specs.ControlResources.{candidate_regs}
 use Rattle.pdcch_app.specs.FirstResources.{eight_groups}
 use Rattle.pdcch_app.specs.Payload.{payload_10}

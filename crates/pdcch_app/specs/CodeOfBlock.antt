@@ -1,7 +1,6 @@
 -- The code of a block: its bits in the input order, at the information positions, times the matrix, and of that word the
 -- bits that are sent (3GPP TS 38.212, 5.3.1 and 5.4.1).
 use Rattle.std.specs.Prelude.{ℕ, zero, suc, ◌+◌, Bool, ◌&&◌, List, if◌then◌else◌}
-use Rattle.std.specs.List.{range_with_len}
 use Rattle.bits_core.specs.Bits.{bit_of}
 use Rattle.polar_kernel.specs.MatrixWord.{word_at}
 use Rattle.pdcch_app.specs.InformationPositions.{is_in, information}
@@ -27,7 +26,3 @@ unfoldable pub code_by : List ℕ → List ℕ → ℕ → ℕ → List Bool →
 code_by reliability input_order k e c =
     let n = length_of k e in
     code_of n k e (order_from input_order k) (is_in (information reliability n k e)) c
-
--- the table of the numbers below n in ascending order
-abbrev pub ascending : ℕ → List ℕ
-ascending n = range_with_len 0 n

@@ -9,6 +9,7 @@ pub mod Steps
 pub mod Ran
 pub mod Payload
 pub mod BlockOrder
+pub mod AscendingTable
 pub mod CodeOfBlock
 pub mod FrozenPlaces
 pub mod InformationPositions

@@ -5,7 +5,7 @@ use Rattle.slot_grid.specs.Image.{overwritten, blank_grid}
 use Rattle.pdcch_app.specs.declared.first_cell.FirstCell.{FirstCell}
 use Rattle.pdcch_app.specs.declared.first_grant.FirstGrant.{FirstGrant}
 use Rattle.pdcch_app.specs.BlockImage.{block_image}
-use Rattle.pdcch_app.specs.CodeOfBlock.{ascending}
+use Rattle.pdcch_app.specs.AscendingTable.{ascending}
 use Rattle.pdcch_app.specs.ControlResources.{candidate_regs}
 use Rattle.pdcch_app.specs.FirstResources.{eight_groups}
 use Rattle.pdcch_app.specs.Payload.{payload_10}

@@ -2,8 +2,9 @@
 //! input order tables in ascending order: the bits stand at the last 63 positions of a word of 512, in their own order.
 
 ghost use Rattle.bits_core.specs.Bits.{bit_of};
+ghost use Rattle.pdcch_app.specs.AscendingTable.{ascending};
 ghost use Rattle.pdcch_app.specs.BlockOrder.{position_at};
-ghost use Rattle.pdcch_app.specs.CodeOfBlock.{ascending, code_by, laid};
+ghost use Rattle.pdcch_app.specs.CodeOfBlock.{code_by, laid};
 ghost use Rattle.pdcch_app.specs.InformationPositions.{information, is_in};
 ghost use Rattle.pdcch_app.specs.InputOrder.{interleaved, order_from};
 ghost use Rattle.pdcch_app.specs.RateMatching.{selected};

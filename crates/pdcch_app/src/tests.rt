@@ -110,3 +110,114 @@ fn one_grant(rt: HostRuntime) -> Result<(), Fail> {
     }
     Ok(())
 }
+
+#[test]
+fn refusals(rt: HostRuntime) -> Result<(), Fail> {
+    let alloc = rt.alloc();
+    let reliability = table(alloc, 1024, true)?;
+    let all: [&str; 5] = ["write", "s", "r", "i", "g"];
+    let none: [u64; 0] = [];
+    let cases: [(&[&str], &[u64], (&str, &str), (&str, &str), Status, &str); 21] = [
+        (&["write", "a", "b", "c"], &none, ("", ""), ("", ""), Status::Usage, "error: usage\n"),
+        (&[], &none, ("", ""), ("", ""), Status::Usage, "error: usage\n"),
+        (&["writes", "s", "r", "i", "g"], &none, ("", ""), ("", ""), Status::Usage, "error: usage\n"),
+        (&["write", "s", "", "i", "g"], &none, ("", ""), ("", ""), Status::Usage, "error: usage\n"),
+        (&["write", "s", "r", "i", "-g"], &none, ("", ""), ("", ""), Status::Usage, "error: usage\n"),
+        (&["write", "s", "r", "i", "g", "g"], &none, ("", ""), ("", ""), Status::Usage, "error: usage\n"),
+        (&all, &[2], ("", ""), ("", ""), Status::ReadFault, "error: read i\n"),
+        (&["write", "s", "r", "x", "g"], &none, ("", ""), ("", ""), Status::ReadFault, "error: read x\n"),
+        (&all, &none, ("\"cell\":500", "\"cell\":1008"), ("", ""), Status::NotBuilt, "error: not built: s\n"),
+        (&all, &none, ("\"cell\":500", "\"cell\":0500"), ("", ""), Status::NotBuilt, "error: not built: s\n"),
+        (&all, &none, ("\"cell\":500", "\"cell\":"), ("", ""), Status::NotBuilt, "error: not built: s\n"),
+        (&all, &none, ("\"rnti\":17", "\"rnti\":0"), ("", ""), Status::NotBuilt, "error: not built: s\n"),
+        (&all, &none, ("\"rnti\":17", "\"rnti\":65520"), ("", ""), Status::NotBuilt, "error: not built: s\n"),
+        (&all, &none, ("\"rnti\":17", "\"rnti\":4294967313"), ("", ""), Status::NotBuilt, "error: not built: s\n"),
+        (&all, &none, ("0]}]}]}", "0]}]}]}\n"), ("", ""), Status::NotBuilt, "error: not built: s\n"),
+        (&all, &none, ("", ""), ("\"fdra\":101", "\"fdra\":2047"), Status::NotBuilt, "error: not built: g\n"),
+        (&all, &none, ("", ""), ("\"tdra\":2", "\"tdra\":16"), Status::NotBuilt, "error: not built: g\n"),
+        (&all, &none, ("", ""), ("\"ndi\":1", "\"ndi\":2"), Status::NotBuilt, "error: not built: g\n"),
+        (&all, &none, ("", ""), ("\"timing\":3", "\"timing\":03"), Status::NotBuilt, "error: not built: g\n"),
+        (&all, &none, ("", ""), ("\"slot\":0", "\"slot\":20"), Status::NotBuilt, "error: not built: g\n"),
+        (&["write", "s", "i", "i", "g"], &none, ("", ""), ("", ""), Status::NotBuilt, "error: not built: i\n"),
+    ];
+    for (list, failing, (old, new), (from, to), status, line) in cases {
+        let settings = if old.is_empty() {
+            String::from_str(alloc, SETTINGS)?
+        } else {
+            SETTINGS.replace(alloc, old, new)?
+        };
+        let grants = if from.is_empty() {
+            String::from_str(alloc, GRANTS)?
+        } else {
+            GRANTS.replace(alloc, from, to)?
+        };
+        let objects = files(alloc, settings.as_str(), reliability.as_str(), grants.as_str())?;
+        let list = words(alloc, list)?;
+        let mut shelf = MemoryShelf::new(objects, Vec::from_slice(alloc, failing)?);
+        let mut out = MemorySink::new(alloc, 1_048_576, 1_048_576, Vec::new(alloc))?;
+        let mut err = MemorySink::new(alloc, 1_048_576, 1_048_576, Vec::new(alloc))?;
+        let answer = run(&rt, alloc, &list, &mut shelf, &mut out, &mut err);
+        assert_eq!(rt; answer, status, "{line} {new} {to}");
+        assert!(rt; out.bytes().is_empty(), "{line} {new} {to}");
+        assert_eq!(rt; err.bytes(), line.as_bytes(), "{line} {new} {to}");
+    }
+    Ok(())
+}
+
+#[test]
+fn tables_and_lengths(rt: HostRuntime) -> Result<(), Fail> {
+    let alloc = rt.alloc();
+    let ascending = table(alloc, 1024, true)?;
+    let descending = table(alloc, 1024, false)?;
+    let mut longest = String::from_str(alloc, SETTINGS)?;
+    while longest.len() < 8_388_608 {
+        longest.push(' ')?;
+    }
+    let mut longer = longest.clone()?;
+    longer.push(' ')?;
+    let cases = [
+        (SETTINGS, descending.as_str(), Status::NotBuilt, "error: not built: r\n"),
+        (longest.as_str(), ascending.as_str(), Status::NotBuilt, "error: not built: s\n"),
+        (longer.as_str(), ascending.as_str(), Status::FileTooLong, "error: too long: s\n"),
+    ];
+    let list = words(alloc, &["write", "s", "r", "i", "g"])?;
+    for (settings, reliability, status, line) in cases {
+        let objects = files(alloc, settings, reliability, GRANTS)?;
+        let mut shelf = MemoryShelf::new(objects, Vec::new(alloc));
+        let mut out = MemorySink::new(alloc, 1_048_576, 1_048_576, Vec::new(alloc))?;
+        let mut err = MemorySink::new(alloc, 1_048_576, 1_048_576, Vec::new(alloc))?;
+        let answer = run(&rt, alloc, &list, &mut shelf, &mut out, &mut err);
+        assert_eq!(rt; answer, status, "{line}");
+        assert!(rt; out.bytes().is_empty(), "{line}");
+        assert_eq!(rt; err.bytes(), line.as_bytes());
+    }
+    Ok(())
+}
+
+#[test]
+fn failing_sinks(rt: HostRuntime) -> Result<(), Fail> {
+    let alloc = rt.alloc();
+    let list = words(alloc, &["write", "s", "r", "i", "g"])?;
+    let reliability = table(alloc, 1024, true)?;
+    let whole = grid(alloc, POINTS)?;
+
+    let objects = files(alloc, SETTINGS, reliability.as_str(), GRANTS)?;
+    let mut shelf = MemoryShelf::new(objects, Vec::new(alloc));
+    let mut out = MemorySink::new(alloc, 1_048_576, 100, vec![in alloc; 1]?)?;
+    let mut err = MemorySink::new(alloc, 1_048_576, 100, Vec::new(alloc))?;
+    let status = run(&rt, alloc, &list, &mut shelf, &mut out, &mut err);
+    assert_eq!(rt; status, Status::WriteFault);
+    assert_eq!(rt; out.bytes().len(), 100);
+    assert!(rt; whole.as_bytes().starts_with(out.bytes()));
+    assert!(rt; err.bytes().is_empty());
+
+    let objects = files(alloc, SETTINGS, reliability.as_str(), GRANTS)?;
+    let mut shelf = MemoryShelf::new(objects, vec![in alloc; 3]?);
+    let mut out = MemorySink::new(alloc, 1_048_576, 100, Vec::new(alloc))?;
+    let mut err = MemorySink::new(alloc, 1_048_576, 7, vec![in alloc; 1]?)?;
+    let status = run(&rt, alloc, &list, &mut shelf, &mut out, &mut err);
+    assert_eq!(rt; status, Status::WriteFault);
+    assert!(rt; out.bytes().is_empty());
+    assert_eq!(rt; err.bytes(), b"error: ".as_slice());
+    Ok(())
+}

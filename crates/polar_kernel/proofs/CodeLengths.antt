@@ -1,5 +1,5 @@
 -- What holds at each of the five lengths holds at a code length.
-use Rattle.std.proofs.Common.{ℕ, ◌≡◌, Bool, true, false, ◌||◌, ◌⊎◌, inl, inr, refl, subst, sym, ◌∙◌}
+use Rattle.std.proofs.Common.{ℕ, ◌≡◌, ◌^◌, ◌≤◌, lit≤, Bool, true, false, ◌||◌, ◌⊎◌, inl, inr, refl, subst, sym, ◌∙◌}
 use Rattle.std.proofs.lemmas.Bool.Decides.{eqb_tells}
 use Rattle.std.specs.Prelude.{IsTrue, ◌==◌}
 use Rattle.polar_kernel.specs.MatrixWord.{is_code_length}
@@ -20,3 +20,18 @@ by_lengths P a b c d e n =
     (one_more P n 256 (n == 32 || n == 64 || n == 128) d
     (one_more P n 128 (n == 32 || n == 64) c
     (one_more P n 64 (n == 32) b (is_one P n 32 a))))
+
+-- a code length is a power of two, and 512 at most
+pub record IsPower (n : ℕ) : Type 0 where
+  pub exponent : ℕ
+  pub power : n ≡ 2 ^ exponent
+  pub limit : n ≤ 512
+
+pub power_of : (n : ℕ) → IsTrue (is_code_length n) → IsPower n
+power_of =
+    by_lengths IsPower
+    (record { exponent = 5; power = refl; limit = lit≤ tt })
+    (record { exponent = 6; power = refl; limit = lit≤ tt })
+    (record { exponent = 7; power = refl; limit = lit≤ tt })
+    (record { exponent = 8; power = refl; limit = lit≤ tt })
+    (record { exponent = 9; power = refl; limit = lit≤ tt })

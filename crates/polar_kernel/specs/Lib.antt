@@ -1,1 +1,3 @@
 pub mod MatrixWord
+pub mod Stages
+pub mod WordLaws

@@ -2,8 +2,11 @@
 //! `[[1, 0], [1, 1]]`, modulo 2.
 #![tactic(auto)]
 
+pub mod laws;
+
 ghost use Rattle.bits_core.specs.Bits.{bit_of};
-ghost use Rattle.polar_kernel.specs.MatrixWord.{is_code_length, matrix_word, word_at};
+ghost use Rattle.polar_kernel.specs.MatrixWord.{is_code_length, matrix_word};
+ghost use Rattle.polar_kernel.specs.Stages.{HasPartners, staged};
 ghost use Rattle.std.specs.Prelude.{ℕ, ◌≡◌, ◌<◌, IsTrue, length};
 
 /// Replaces the input bits of a polar code by its word: bit `j` becomes the sum modulo 2 of the bits at every `i` whose
@@ -12,38 +15,38 @@ pub fn transform<const N: usize>(word: &mut [bool; N])
     requires { IsTrue (is_code_length N) }
     ensures { word.new ≡ matrix_word word.old }
 {
-    let input = *word;
-    write_word(&input, word);
+    run_stages(word);
 }
 
-/// Writes the word of `input` to `word`, which has as many bits.
-fn write_word(input: &[bool], word: &mut [bool])
-    requires { length word.old ≡ length input.now }
-    ensures { word.new ≡ matrix_word input.now }
+/// The transform in stages: after each, runs of bits twice as long are words of their own.
+fn run_stages(word: &mut [bool])
+    requires { IsTrue (is_code_length (length word.old)) }
+    ensures { word.new ≡ matrix_word word.old }
 {
-    for (place, bit) in word.iter_mut().enumerate() {
-        *bit = column_sum(input, place);
+    let mut span = 1;
+    while span < word.len() {
+        add_partners(word, span);
+        span *= 2;
     }
 }
 
-/// The sum modulo 2 of the bits in the rows of the matrix that have a one in `column`.
-fn column_sum(bits: &[bool], column: usize) -> bool
-    ensures { result ≡ word_at (length bits.now) (bit_of bits.now) column }
+/// One stage: adds the bit `span` places on to each bit whose place has a zero in the binary digit of `span`.
+fn add_partners(word: &mut [bool], span: usize)
+    requires { HasPartners (length word.old) span }
+    ensures { (j : ℕ) → j < length word.old → bit_of word.new j ≡ staged span (bit_of word.old) j }
 {
-    let mut sum = false;
-    for (row, bit) in bits.iter().enumerate() {
-        if row & column == column {
-            sum ^= *bit;
+    for place in 0..word.len() {
+        if place & span == 0 {
+            word[place] ^= word[place + span];
         }
     }
-    sum
 }
 
 #[cfg(test)]
 mod tests {
     use super::*;
 
-    // Row 31 of the matrix for 32 bits is all ones, as the last row is at each length; row 0 has a one in column 0 alone.
+    // The last row of the matrix is all ones at each length, and the first has a one in column 0 alone.
     #[test]
     fn single_rows(rt: HostRuntime) {
         let mut last = [false; 32];

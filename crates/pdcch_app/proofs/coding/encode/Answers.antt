@@ -1,4 +1,4 @@
-use Rattle.std.proofs.Common.{List, Bool, ℕ, length, ap, ◌∙◌}
+use Rattle.std.proofs.Common.{List, Bool, length, ap, ◌∙◌}
 use Rattle.bits_core.specs.Bits.{bit_of}
 use Rattle.pdcch_app.specs.RateMatching.{selected}
 use Rattle.pdcch_app.proofs.CodingOfBlock.{code_is}

@@ -1,4 +1,4 @@
-use Rattle.std.proofs.Common.{ℕ, refl, arith}
+use Rattle.std.proofs.Common.{refl, arith}
 use Rattle.pdcch_app.proofs.CodingPositions.{laid_word-is, nothing_laid}
 use Rattle.pdcch_app.proofs.coding.laid_word.Goals as goal
 

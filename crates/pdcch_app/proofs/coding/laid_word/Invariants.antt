@@ -1,4 +1,4 @@
-use Rattle.std.proofs.Common.{ℕ, ◌≡◌, ◌+◌, ◌<◌, Bool, false, length}
+use Rattle.std.proofs.Common.{ℕ, ◌≡◌, ◌+◌, ◌<◌, false, length}
 use Rattle.bits_core.specs.Bits.{bit_of}
 use Rattle.pdcch_app.proofs.coding.laid_word.Given as goal
 

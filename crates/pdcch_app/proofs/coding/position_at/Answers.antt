@@ -1,4 +1,4 @@
-use Rattle.std.proofs.Common.{ℕ, ◌*◌, ◌/◌, refl}
+use Rattle.std.proofs.Common.{◌*◌, ◌/◌, refl}
 use Rattle.std.proofs.Math.Facts.{Fits-of_lt}
 use Rattle.pdcch_app.specs.BlockOrder.{position_at}
 use Rattle.pdcch_app.proofs.CodingPlaces.{place_small, position_below}

@@ -1,4 +1,4 @@
-use Rattle.std.proofs.Common.{ap, arith}
+use Rattle.std.proofs.Common.{ap}
 use Rattle.bits_core.specs.Bits.{bit_of}
 use Rattle.pdcch_app.proofs.CodingSelection.{selected-more, selected-all}
 use Rattle.pdcch_app.proofs.coding.sent_bits.Goals as goal
