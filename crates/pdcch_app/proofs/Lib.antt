@@ -4,6 +4,7 @@ pub mod Working
 pub mod Completing
 pub mod GridTexts
 pub mod Writings
+pub mod RunPromises
 pub mod CodingPlaces
 pub mod CodingPositions
 pub mod CodingSelection

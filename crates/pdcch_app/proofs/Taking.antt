@@ -7,7 +7,7 @@ use Rattle.pdcch_app.specs.Outcome.{Refusal, Fetched, Bytes, TooLong, Fault, giv
 use Rattle.pdcch_app.specs.Outcomes.{raw}
 use Rattle.pdcch_app.specs.Steps.{Step, IsGiven}
 
-given_of-within : (bytes : List ℕ) → length bytes ≤ limit → given_of bytes ≡ Bytes bytes
+pub given_of-within : (bytes : List ℕ) → length bytes ≤ limit → given_of bytes ≡ Bytes bytes
 given_of-within bytes h = let e : leb (length bytes) limit ≡ true = search rules in rw e
 
 given_of-beyond : (bytes : List ℕ) → limit < length bytes → given_of bytes ≡ TooLong

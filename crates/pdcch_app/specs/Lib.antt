@@ -25,3 +25,4 @@ pub mod Modulation
 pub mod ControlResources
 pub mod Watch
 pub mod BlockImage
+pub mod Promises

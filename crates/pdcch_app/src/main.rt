@@ -10,6 +10,7 @@ mod first_cell;
 mod first_grant;
 mod first_table;
 mod grid_text;
+pub mod laws;
 mod payload;
 mod points;
 mod reader;

@@ -111,55 +111,60 @@ fn one_grant(rt: HostRuntime) -> Result<(), Fail> {
     Ok(())
 }
 
+/// The number of no call.
+const NEVER: u64 = u64::MAX;
+
+/// Words with single spaces between, the fetch that fails, an edit of the settings and one of the grants, and what a
+/// run on these ends with.
+type Case = (&'static str, u64, &'static str, &'static str, Status, &'static str);
+
+const CASES: [Case; 21] = [
+    ("write a b c", NEVER, "", "", Status::Usage, "error: usage\n"),
+    ("", NEVER, "", "", Status::Usage, "error: usage\n"),
+    ("writes s r i g", NEVER, "", "", Status::Usage, "error: usage\n"),
+    ("write s  i g", NEVER, "", "", Status::Usage, "error: usage\n"),
+    ("write s r i -g", NEVER, "", "", Status::Usage, "error: usage\n"),
+    ("write s r i g g", NEVER, "", "", Status::Usage, "error: usage\n"),
+    ("write s r i g", 2, "", "", Status::ReadFault, "error: read i\n"),
+    ("write s r x g", NEVER, "", "", Status::ReadFault, "error: read x\n"),
+    ("write s i i g", NEVER, "", "", Status::NotBuilt, "error: not built: i\n"),
+    ("write s r i g", NEVER, "500", "1008", Status::NotBuilt, "error: not built: s\n"),
+    ("write s r i g", NEVER, "500", "0500", Status::NotBuilt, "error: not built: s\n"),
+    ("write s r i g", NEVER, "500", "", Status::NotBuilt, "error: not built: s\n"),
+    ("write s r i g", NEVER, "17", "0", Status::NotBuilt, "error: not built: s\n"),
+    ("write s r i g", NEVER, "17", "65520", Status::NotBuilt, "error: not built: s\n"),
+    ("write s r i g", NEVER, "17", "4294967313", Status::NotBuilt, "error: not built: s\n"),
+    ("write s r i g", NEVER, "0]}]}]}", "0]}]}]}\n", Status::NotBuilt, "error: not built: s\n"),
+    ("write s r i g", NEVER, "101", "2047", Status::NotBuilt, "error: not built: g\n"),
+    ("write s r i g", NEVER, "\"tdra\":2", "\"tdra\":16", Status::NotBuilt, "error: not built: g\n"),
+    ("write s r i g", NEVER, "\"ndi\":1", "\"ndi\":2", Status::NotBuilt, "error: not built: g\n"),
+    ("write s r i g", NEVER, "\"timing\":3", "\"timing\":03", Status::NotBuilt, "error: not built: g\n"),
+    ("write s r i g", NEVER, "\"slot\":0", "\"slot\":20", Status::NotBuilt, "error: not built: g\n"),
+];
+
 #[test]
 fn refusals(rt: HostRuntime) -> Result<(), Fail> {
     let alloc = rt.alloc();
     let reliability = table(alloc, 1024, true)?;
-    let all: [&str; 5] = ["write", "s", "r", "i", "g"];
-    let none: [u64; 0] = [];
-    let cases: [(&[&str], &[u64], (&str, &str), (&str, &str), Status, &str); 21] = [
-        (&["write", "a", "b", "c"], &none, ("", ""), ("", ""), Status::Usage, "error: usage\n"),
-        (&[], &none, ("", ""), ("", ""), Status::Usage, "error: usage\n"),
-        (&["writes", "s", "r", "i", "g"], &none, ("", ""), ("", ""), Status::Usage, "error: usage\n"),
-        (&["write", "s", "", "i", "g"], &none, ("", ""), ("", ""), Status::Usage, "error: usage\n"),
-        (&["write", "s", "r", "i", "-g"], &none, ("", ""), ("", ""), Status::Usage, "error: usage\n"),
-        (&["write", "s", "r", "i", "g", "g"], &none, ("", ""), ("", ""), Status::Usage, "error: usage\n"),
-        (&all, &[2], ("", ""), ("", ""), Status::ReadFault, "error: read i\n"),
-        (&["write", "s", "r", "x", "g"], &none, ("", ""), ("", ""), Status::ReadFault, "error: read x\n"),
-        (&all, &none, ("\"cell\":500", "\"cell\":1008"), ("", ""), Status::NotBuilt, "error: not built: s\n"),
-        (&all, &none, ("\"cell\":500", "\"cell\":0500"), ("", ""), Status::NotBuilt, "error: not built: s\n"),
-        (&all, &none, ("\"cell\":500", "\"cell\":"), ("", ""), Status::NotBuilt, "error: not built: s\n"),
-        (&all, &none, ("\"rnti\":17", "\"rnti\":0"), ("", ""), Status::NotBuilt, "error: not built: s\n"),
-        (&all, &none, ("\"rnti\":17", "\"rnti\":65520"), ("", ""), Status::NotBuilt, "error: not built: s\n"),
-        (&all, &none, ("\"rnti\":17", "\"rnti\":4294967313"), ("", ""), Status::NotBuilt, "error: not built: s\n"),
-        (&all, &none, ("0]}]}]}", "0]}]}]}\n"), ("", ""), Status::NotBuilt, "error: not built: s\n"),
-        (&all, &none, ("", ""), ("\"fdra\":101", "\"fdra\":2047"), Status::NotBuilt, "error: not built: g\n"),
-        (&all, &none, ("", ""), ("\"tdra\":2", "\"tdra\":16"), Status::NotBuilt, "error: not built: g\n"),
-        (&all, &none, ("", ""), ("\"ndi\":1", "\"ndi\":2"), Status::NotBuilt, "error: not built: g\n"),
-        (&all, &none, ("", ""), ("\"timing\":3", "\"timing\":03"), Status::NotBuilt, "error: not built: g\n"),
-        (&all, &none, ("", ""), ("\"slot\":0", "\"slot\":20"), Status::NotBuilt, "error: not built: g\n"),
-        (&["write", "s", "i", "i", "g"], &none, ("", ""), ("", ""), Status::NotBuilt, "error: not built: i\n"),
-    ];
-    for (list, failing, (old, new), (from, to), status, line) in cases {
-        let settings = if old.is_empty() {
-            String::from_str(alloc, SETTINGS)?
-        } else {
-            SETTINGS.replace(alloc, old, new)?
-        };
-        let grants = if from.is_empty() {
-            String::from_str(alloc, GRANTS)?
-        } else {
-            GRANTS.replace(alloc, from, to)?
-        };
+    for (line, failing, old, new, status, refusal) in CASES {
+        let mut settings = String::from_str(alloc, SETTINGS)?;
+        let mut grants = String::from_str(alloc, GRANTS)?;
+        if !old.is_empty() {
+            settings = settings.replace(alloc, old, new)?;
+            grants = grants.replace(alloc, old, new)?;
+        }
+        let mut list = Vec::new(alloc);
+        for word in line.split(' ') {
+            list.push(String::from_str(alloc, word)?)?;
+        }
         let objects = files(alloc, settings.as_str(), reliability.as_str(), grants.as_str())?;
-        let list = words(alloc, list)?;
-        let mut shelf = MemoryShelf::new(objects, Vec::from_slice(alloc, failing)?);
+        let mut shelf = MemoryShelf::new(objects, vec![in alloc; failing]?);
         let mut out = MemorySink::new(alloc, 1_048_576, 1_048_576, Vec::new(alloc))?;
         let mut err = MemorySink::new(alloc, 1_048_576, 1_048_576, Vec::new(alloc))?;
         let answer = run(&rt, alloc, &list, &mut shelf, &mut out, &mut err);
-        assert_eq!(rt; answer, status, "{line} {new} {to}");
-        assert!(rt; out.bytes().is_empty(), "{line} {new} {to}");
-        assert_eq!(rt; err.bytes(), line.as_bytes(), "{line} {new} {to}");
+        assert_eq!(rt; answer, status, "{line} {new}");
+        assert!(rt; out.bytes().is_empty(), "{line} {new}");
+        assert_eq!(rt; err.bytes(), refusal.as_bytes(), "{line} {new}");
     }
     Ok(())
 }

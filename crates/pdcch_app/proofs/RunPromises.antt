@@ -1,0 +1,81 @@
+-- The promises of a run, from what it leaves.
+use Rattle.std.proofs.Common.{◌≡◌, ◌<◌, ◌≤◌, ◌⊎◌, inl, inr, ⊎_elim, ℕ, Bool, true, false, cond, leb, List, [], ◌∷◌, ◌++◌, Option, Some, None, Result, Ok, String, length, option_map, refl, sym, ap, ◌∙◌, subst, arith, rules, append-nil}
+use Rattle.std.specs.declared.alloc.Global.{Global}
+use Rattle.std.specs.Str.{bytes_eq}
+use Rattle.std.proofs.lemmas.Slice.Eq.{bytes_eq-Decides}
+use Rattle.outside.specs.Taken.{Takes}
+use Rattle.pdcch_app.specs.declared.status.Status.{Status}
+use Rattle.pdcch_app.specs.declared.status.Status.TheVariants as ends
+use Rattle.pdcch_app.specs.declared.first_cell.FirstCell.{FirstCell}
+use Rattle.pdcch_app.specs.declared.first_grant.FirstGrant.{FirstGrant}
+use Rattle.pdcch_app.specs.FirstForms.{settings_in, settings_of, grant_in, grant_of, table_of, first_table}
+use Rattle.pdcch_app.specs.Outcome.{Outcome, Refusal, Fetched, given_of, limit, is_done, no_memory, reading}
+use Rattle.pdcch_app.specs.Outcomes.{outcome, served}
+use Rattle.pdcch_app.specs.Promises.{EndsAsReadFault, EndsAsWriteFault, RefusesSilently, RefusesWords, WritesFirstForms}
+use Rattle.pdcch_app.specs.Ran.{Ran}
+use Rattle.pdcch_app.specs.Words.{legal, file}
+use Rattle.pdcch_app.proofs.Taking.{given_of-within}
+
+-- a run ends with the status of its outcome, for want of memory, or as a fault of writing
+ends-with : (words : List (String Global)) (gave : List Fetched) (answer : Outcome) (result wanted : Status) → (answer ≡ outcome words gave) ⊎ (answer ≡ no_memory) → (result ≡ answer.status) ⊎ (result ≡ ends.WriteFault) → (outcome words gave).status ≡ wanted
+    → (result ≡ wanted) ⊎ ((result ≡ ends.WriteFault) ⊎ (result ≡ ends.NoMemory))
+ends-with words gave answer result wanted (inl e) (inl s) h = inl (s ∙ ap (λ (o : Outcome). o.status) e ∙ h)
+ends-with words gave answer result wanted (inr e) (inl s) h = inr (inr (s ∙ ap (λ (o : Outcome). o.status) e))
+ends-with words gave answer result wanted a (inr s) h = inr (inl s)
+
+pub ends_as_read_fault : EndsAsReadFault
+ends_as_read_fault words told fo fn lo ln result oo on ofo ofn eo en efo efn r rose =
+    ⊎_elim (λ h. ends-with words r.gave r.answer result ends.ReadFault r.is r.delivered.status h) (λ (e : fn ≡ fo). absurd (omega arith)) r.quiet
+
+pub ends_as_write_fault : EndsAsWriteFault
+ends_as_write_fault words told fo fn lo ln result oo on ofo ofn eo en efo efn r rose =
+    ⊎_elim
+      (λ (s : result ≡ r.answer.status).
+        let unlike : result ≡ ends.WriteFault → ⊥ = λ e. r.honest (sym s ∙ e) in
+        let out : ofn ≡ ofo = r.delivered.out_kept unlike in
+        let err : efn ≡ efo = r.delivered.err_kept unlike in
+        absurd (⊎_elim (λ (h : ofo < ofn). omega arith) (λ (h : efo < efn). omega arith) rose))
+      (λ s. s) r.delivered.status
+
+took-nothing : (old new : Option (List ℕ)) → Takes old new [] → new ≡ old
+took-nothing None new e = e
+took-nothing (Some bytes) new e = e ∙ ap Some (append-nil bytes)
+
+pub refuses_silently : RefusesSilently
+refuses_silently words told fo fn lo ln result oo on ofo ofn eo en efo efn r refused unlike =
+    let same : result ≡ r.answer.status = ⊎_elim (λ s. s) (λ s. absurd (unlike s)) r.delivered.status in
+    let nothing : r.answer.out ≡ [] = r.silent (subst (λ (s : Status). is_done s ≡ false) same refused) in
+    took-nothing oo on (subst (λ (text : List ℕ). Takes oo on text) nothing (r.delivered.out_whole unlike))
+
+served-none : (words : List (String Global)) (gave : List Fetched) → legal words ≡ None → (outcome words gave).status ≡ ends.Usage
+served-none words gave e = rw e refl
+
+pub refuses_words : RefusesWords
+refuses_words words told fo fn lo ln result oo on ofo ofn eo en efo efn r e =
+    ends-with words r.gave r.answer result ends.Usage r.is r.delivered.status (served-none words r.gave e)
+
+-- a file that its check accepts is passed on to the next step
+went : {A : Type 0} (check : List ℕ → Result A Refusal) (name : List ℕ) (next : A → List Fetched → Outcome) (bytes : List ℕ) (rest : List Fetched) (a : A) → length bytes ≤ limit → check bytes ≡ Ok a → reading check name next (given_of bytes ∷ rest) ≡ next a rest
+unfolding reading
+went check name next bytes rest a h e = rw (given_of-within bytes h, e) refl
+
+settings-read : (name bytes : List ℕ) (cell : FirstCell) → settings_in bytes ≡ Some cell → settings_of name bytes ≡ Ok cell
+unfolding settings_of
+settings-read name bytes cell e = rw e refl
+
+grant-read : (name bytes : List ℕ) (grant : FirstGrant) → grant_in bytes ≡ Some grant → grant_of name bytes ≡ Ok grant
+unfolding grant_of
+grant-read name bytes grant e = rw e refl
+
+table-read : (size : ℕ) (name bytes : List ℕ) → bytes ≡ first_table size → table_of size name bytes ≡ Ok tt
+unfolding table_of
+table-read size name bytes e = let same : bytes_eq bytes (first_table size) ≡ true = (bytes_eq-Decides bytes (first_table size)).1 e in rw same refl
+
+pub writes_first_forms : WritesFirstForms
+writes_first_forms words settings reliability input_order grants cell grant w hs hr hi hg s r i g =
+    let gave : List Fetched = given_of settings ∷ given_of reliability ∷ given_of input_order ∷ given_of grants ∷ [] in
+    ap (λ c. served c words gave) w
+    ∙ went (settings_of (file words 0)) (file words 0) _ settings _ cell hs (settings-read (file words 0) settings cell s)
+    ∙ went (table_of 1024 (file words 1)) (file words 1) _ reliability _ tt hr (table-read 1024 (file words 1) reliability r)
+    ∙ went (table_of 164 (file words 2)) (file words 2) _ input_order _ tt hi (table-read 164 (file words 2) input_order i)
+    ∙ went (grant_of (file words 3)) (file words 3) _ grants _ grant hg (grant-read (file words 3) grants grant g)
