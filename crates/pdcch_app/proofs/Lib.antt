@@ -18,3 +18,13 @@ mod CceRows
 mod FirstRegs
 mod ReferencePairs
 mod ReferenceRows
+mod FieldCarriers
+pub mod FieldPayloads
+mod FieldPins
+mod FieldReading
+pub mod FieldValues
+pub mod Takes
+pub mod DecodingPlaces
+pub mod DecodingWords
+pub mod DecodingOfBlock
+pub mod FirstGrids

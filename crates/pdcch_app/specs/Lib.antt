@@ -26,3 +26,12 @@ pub mod ControlResources
 pub mod Watch
 pub mod BlockImage
 pub mod Promises
+pub mod Fields
+pub mod PayloadOfRows
+pub mod RowsOfPayload
+pub mod Held
+pub mod Taken
+pub mod Decoding
+pub mod FirstGrid
+pub mod Spelling
+pub mod Report

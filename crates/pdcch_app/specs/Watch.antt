@@ -2,11 +2,13 @@
 use Rattle.std.specs.Prelude.{ℕ, List}
 use Rattle.pdcch_app.specs.declared.resources.Reg.{Reg}
 
--- its first symbol, its aggregation level and its REGs, the identity of its reference signal, the start value of its
+-- the number of its set, its first symbol, its aggregation level, its number among the candidates of that level and its REGs, the identity of its reference signal, the start value of its
 -- scrambling sequence, the RNTI and the size of its payload
 pub record Watch : Type 0 where
+  pub set : ℕ
   pub symbol : ℕ
   pub level : ℕ
+  pub candidate : ℕ
   pub regs : List Reg
   pub dmrs_id : ℕ
   pub scramble : ℕ

@@ -16,8 +16,10 @@ use Rattle.pdcch_app.specs.Watch.{Watch}
 -- and no RNTI in the scrambling
 abbrev pub first_watch : FirstCell → Watch
 first_watch cell = record {
+  set = 1;
   symbol = 0;
   level = 8;
+  candidate = 0;
   regs = candidate_regs eight_groups 0 8;
   dmrs_id = cell.cell;
   scramble = scramble_start 0 cell.cell;

@@ -15,16 +15,16 @@ use bits_core::{Block, Coded};
 use polar_kernel::transform;
 
 /// The bits of a block.
-const BLOCK_LEN: usize = 63;
+pub const BLOCK_LEN: usize = 63;
 
 /// The bits of the word that a block is coded to.
-const WORD_LEN: usize = 512;
+pub const WORD_LEN: usize = 512;
 
 /// The bits of the word that are sent.
-const CODED_LEN: usize = 864;
+pub const CODED_LEN: usize = 864;
 
 /// The first position of the word that carries a bit of the block: it is followed by the others.
-const FIRST_POSITION: usize = WORD_LEN - BLOCK_LEN;
+pub const FIRST_POSITION: usize = WORD_LEN - BLOCK_LEN;
 
 /// The block of the word that is sent at each of 32 turns.
 const SENT_BLOCKS: [usize; 32] = [
@@ -70,7 +70,7 @@ fn sent_bits(word: &[bool; 512]) -> Coded
 }
 
 /// The position in a word of `n` bits that is sent at place `m`.
-fn position_at(n: usize, m: usize) -> usize
+pub fn position_at(n: usize, m: usize) -> usize
     requires code_length { IsTrue (is_code_length n) }
     requires below { m < n }
     ensures value { result ≡ position_at n m }

@@ -3,10 +3,12 @@
 mod placing;
 mod reference;
 mod scrambling;
+mod taking;
 
 pub use placing::put_bits;
 pub use reference::reference_point;
 pub use scrambling::{scramble, scramble_start};
+pub use taking::{BadPlace, Flaw, take_bits};
 
 #[cfg(test)]
 mod tests;

@@ -1,0 +1,62 @@
+-- What a grid spells at a watch: a format with field values whose masked payload has the grid's points as its image.
+use Rattle.std.specs.Prelude.{◌≡◌, ℕ, ◌*◌, Bool, true, false, List, [], ◌∷◌, Option, Some, None, map, find}
+use Rattle.std.specs.List.{range_with_len, flat_map, list_all}
+use Rattle.crc_mask.specs.Parity.{masked}
+use Rattle.slot_grid.specs.declared.places.Point.{Point}
+use Rattle.slot_grid.specs.declared.places.Point.TheVariants.{Empty, P00, P01, P10, P11}
+use Rattle.slot_grid.specs.Grid.{GridValue, point_at}
+use Rattle.slot_grid.specs.Image.{Image, Agrees}
+use Rattle.pdcch_app.specs.declared.fields.formats.Format.{Format}
+use Rattle.pdcch_app.specs.declared.fields.formats.Format.TheVariants.{F00, F10, Order}
+use Rattle.pdcch_app.specs.BlockImage.{block_image}
+use Rattle.pdcch_app.specs.Fields.{rows_of}
+use Rattle.pdcch_app.specs.PayloadOfRows.{payload_of, all_values}
+use Rattle.pdcch_app.specs.Watch.{Watch}
+
+-- a format, and a value for each of its rows
+pub record Spelling : Type 0 where
+  pub format : Format
+  pub values : List ℕ
+
+-- the formats that are told apart
+abbrev pub formats : List Format
+formats = F00 ∷ F10 ∷ Order ∷ []
+
+-- every spelling whose values fit, where the frequency assignment has `fdra` bits
+unfoldable pub all_spellings : ℕ → List Spelling
+all_spellings fdra =
+    flat_map (λ f. map (λ vs. record { format = f; values = vs }) (all_values (rows_of f fdra))) formats
+
+-- two points are one
+abbrev pub is_point : Point → Point → Bool
+is_point Empty Empty = true
+is_point P00 P00 = true
+is_point P01 P01 = true
+is_point P10 P10 = true
+is_point P11 P11 = true
+is_point _ _ = false
+
+-- a place of a grid has the image's point, where the image has one there
+abbrev pub fits_there : Option Point → Point → Bool
+fits_there None point = true
+fits_there (Some wanted) point = is_point wanted point
+
+-- each place of the grid fits the image
+unfoldable pub agrees : GridValue → Image → Bool
+agrees grid image =
+    list_all (λ s. list_all (λ c. fits_there (image s c) (point_at grid s c)) (range_with_len 0 (12 * grid.blocks))) (range_with_len 0 14)
+
+-- the grid agrees with what the payload writes at the watch, masked by the watch's RNTI
+abbrev pub carries : List ℕ → List ℕ → GridValue → Watch → Option (List Bool) → Bool
+carries reliability input_order grid watch None = false
+carries reliability input_order grid watch (Some payload) =
+    agrees grid (block_image reliability input_order grid.slot watch (masked payload watch.rnti))
+
+-- a spelling has a payload of the watch's size, and the grid carries it
+abbrev pub spells : List ℕ → List ℕ → ℕ → GridValue → Watch → Spelling → Bool
+spells reliability input_order fdra grid watch s =
+    carries reliability input_order grid watch (payload_of (rows_of s.format fdra) s.format s.values watch.size)
+
+-- what the grid spells at the watch, where it spells something
+unfoldable pub spelled : List ℕ → List ℕ → ℕ → GridValue → Watch → Option Spelling
+spelled reliability input_order fdra grid watch = find (spells reliability input_order fdra grid watch) (all_spellings fdra)
