@@ -34,4 +34,5 @@ pub mod Taken
 pub mod Decoding
 pub mod FirstGrid
 pub mod Spelling
+pub mod Entry
 pub mod Report

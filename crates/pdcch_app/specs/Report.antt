@@ -5,9 +5,8 @@ use Rattle.std.specs.Fmt.{decimal}
 use Rattle.slot_grid.specs.Grid.{GridValue}
 use Rattle.pdcch_app.specs.declared.fields.formats.Format.{Format}
 use Rattle.pdcch_app.specs.declared.fields.rows.FieldValue.{FieldValue}
-use Rattle.pdcch_app.specs.Fields.{format_word, field_word, rows_of}
-use Rattle.pdcch_app.specs.PayloadOfRows.{shown}
-use Rattle.pdcch_app.specs.Spelling.{Spelling}
+use Rattle.pdcch_app.specs.Entry.{Entry}
+use Rattle.pdcch_app.specs.Fields.{format_word, field_word}
 use Rattle.pdcch_app.specs.Watch.{Watch}
 
 -- the slot of the grid
@@ -36,11 +35,11 @@ unfoldable pub heard_line : Watch → Format → List FieldValue → List ℕ
 heard_line watch format fields =
     codes "set " ++ decimal watch.set ++ codes " symbol " ++ decimal watch.symbol ++ codes " level " ++ decimal watch.level ++ codes " candidate " ++ decimal watch.candidate ++ codes " size " ++ decimal watch.size ++ codes " rnti " ++ hex_word watch.rnti ++ 32 ∷ [] ++ format_word format ++ flat_map field_text fields ++ 10 ∷ []
 
--- the lines of a handset with one watch, where the frequency assignment has `fdra` bits
-abbrev pub handset_report : List ℕ → ℕ → Watch → Option Spelling → List ℕ
-handset_report name fdra watch None = handset_line name 1 0
-handset_report name fdra watch (Some s) = handset_line name 1 1 ++ heard_line watch s.format (shown (rows_of s.format fdra) s.format s.values)
+-- the lines of a handset with one watch
+abbrev pub handset_report : List ℕ → Watch → Option Entry → List ℕ
+handset_report name watch None = handset_line name 1 0
+handset_report name watch (Some entry) = handset_line name 1 1 ++ heard_line watch entry.format entry.fields
 
 -- the report of a slot with one handset that has one watch
-unfoldable pub report : GridValue → List ℕ → ℕ → Watch → Option Spelling → List ℕ
-report grid name fdra watch spelling = slot_line grid.frame grid.slot ++ handset_report name fdra watch spelling
+unfoldable pub report : GridValue → List ℕ → Watch → Option Entry → List ℕ
+report grid name watch entry = slot_line grid.frame grid.slot ++ handset_report name watch entry

@@ -13,6 +13,7 @@ mod first_grant;
 mod first_grid;
 mod first_table;
 mod grid_text;
+mod heard;
 pub mod laws;
 mod payload;
 mod points;
