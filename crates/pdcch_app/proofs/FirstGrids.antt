@@ -154,6 +154,9 @@ reads_no_other bytes grid e =
     let P : GridValue → Type 0 = λ g. IsFirstGrid g × (grid_text g ≡ bytes) in
     subst P is (first_placed bytes, (bytes_eq-Decides (grid_text (placed bytes)) bytes).0 same)
 
+pub read_is_first : (bytes : List ℕ) (grid : GridValue) → grid_in bytes ≡ Some grid → IsFirstGrid grid
+read_is_first bytes grid e = (reads_no_other bytes grid e).0
+
 pub reads_each : ReadsEach
 reads_each grid first =
     let is : grid ≡ placed (grid_text grid) =

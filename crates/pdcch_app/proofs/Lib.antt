@@ -28,3 +28,4 @@ pub mod DecodingPlaces
 pub mod DecodingWords
 pub mod DecodingOfBlock
 pub mod FirstGrids
+pub mod Hearings

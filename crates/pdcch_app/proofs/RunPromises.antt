@@ -30,12 +30,12 @@ ends_as_read_fault words told fo fn lo ln result oo on ofo ofn eo en efo efn r r
 pub ends_as_write_fault : EndsAsWriteFault
 ends_as_write_fault words told fo fn lo ln result oo on ofo ofn eo en efo efn r rose =
     ⊎_elim
-      (λ (s : result ≡ r.answer.status).
-        let unlike : result ≡ ends.WriteFault → ⊥ = λ e. r.honest (sym s ∙ e) in
-        let out : ofn ≡ ofo = r.delivered.out_kept unlike in
-        let err : efn ≡ efo = r.delivered.err_kept unlike in
-        absurd (⊎_elim (λ (h : ofo < ofn). omega arith) (λ (h : efo < efn). omega arith) rose))
-      (λ s. s) r.delivered.status
+    (λ (s : result ≡ r.answer.status).
+    let unlike : result ≡ ends.WriteFault → ⊥ = λ e. r.honest (sym s ∙ e) in
+    let out : ofn ≡ ofo = r.delivered.out_kept unlike in
+    let err : efn ≡ efo = r.delivered.err_kept unlike in
+    absurd (⊎_elim (λ (h : ofo < ofn). omega arith) (λ (h : efo < efn). omega arith) rose))
+    (λ s. s) r.delivered.status
 
 took-nothing : (old new : Option (List ℕ)) → Takes old new [] → new ≡ old
 took-nothing None new e = e

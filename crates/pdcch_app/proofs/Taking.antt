@@ -32,45 +32,45 @@ no-fault told e = no-fault-cond (leb (length told) limit) told e
 
 pub took-bytes : (name : List ℕ) (told : Option (List ℕ)) (fo fn lo ln : ℕ) (items : List ℕ) → Fetches told limit fo fn lo ln items (Ok tt) → Step raw name told fo fn lo ln (Ok items)
 took-bytes name told fo fn lo ln items f = record {
-    gave = Bytes items;
-    given = record {
-      fits = λ bytes e. let same : items ≡ bytes = cc in subst (λ (b : List ℕ). length b ≤ limit) same f.fits;
-      agrees = λ bytes e. let same : items ≡ bytes = f.bytes bytes e in inl (ap Bytes same ∙ sym (given_of-within bytes (subst (λ (b : List ℕ). length b ≤ limit) same f.fits)));
-      faulted = λ e. absurd (cc);
-      longed = λ t e. absurd (cc)
-    };
-    is = refl;
-    longed = λ e. absurd (cc);
-    quiet = inr (f.kept (λ e. cc));
-    short = inr (f.longs_kept (λ e. cc));
-    faults_later = f.faults_later;
-    longs_later = f.longs_later
-  }
+  gave = Bytes items;
+  given = record {
+    fits = λ bytes e. let same : items ≡ bytes = cc in subst (λ (b : List ℕ). length b ≤ limit) same f.fits;
+    agrees = λ bytes e. let same : items ≡ bytes = f.bytes bytes e in inl (ap Bytes same ∙ sym (given_of-within bytes (subst (λ (b : List ℕ). length b ≤ limit) same f.fits)));
+    faulted = λ e. absurd (cc);
+    longed = λ t e. absurd (cc);
+  };
+  is = refl;
+  longed = λ e. absurd (cc);
+  quiet = inr (f.kept (λ e. cc));
+  short = inr (f.longs_kept (λ e. cc));
+  faults_later = f.faults_later;
+  longs_later = f.longs_later;
+}
 
 -- what fills in a fetch that did not come fits, and is what is told
 pub given-unread : (told : Option (List ℕ)) (fo fn lo ln : ℕ) → IsGiven told fo fn lo ln (unread told)
 given-unread None fo fn lo ln = record {
-    fits = λ bytes e. let same : [] ≡ bytes = cc in subst (λ (b : List ℕ). length b ≤ limit) same (omega arith);
-    agrees = λ bytes e. absurd (cc);
-    faulted = λ e. absurd (cc);
-    longed = λ t e. absurd (cc)
-  }
+  fits = λ bytes e. let same : [] ≡ bytes = cc in subst (λ (b : List ℕ). length b ≤ limit) same (omega arith);
+  agrees = λ bytes e. absurd (cc);
+  faulted = λ e. absurd (cc);
+  longed = λ t e. absurd (cc);
+}
 given-unread (Some told) fo fn lo ln = record {
-    fits = fits-given told;
-    agrees = λ bytes e. inl (let same : told ≡ bytes = cc in ap given_of same);
-    faulted = λ e. absurd (no-fault told e);
-    longed = λ t e. absurd (cc)
-  }
+  fits = fits-given told;
+  agrees = λ bytes e. inl (let same : told ≡ bytes = cc in ap given_of same);
+  faulted = λ e. absurd (no-fault told e);
+  longed = λ t e. absurd (cc);
+}
 
 -- a fetch that found no memory
 pub took-none : (name : List ℕ) (told : Option (List ℕ)) (fo fn lo ln : ℕ) (items : List ℕ) → Fetches told limit fo fn lo ln items (Err fault.NoMemory) → Step raw name told fo fn lo ln (Err OutOfMemory)
 took-none name told fo fn lo ln items f = record {
-    gave = unread told;
-    given = given-unread told fo fn lo ln;
-    is = tt;
-    longed = λ e. inl tt;
-    quiet = inr (f.kept (λ e. cc));
-    short = inr (f.longs_kept (λ e. cc));
-    faults_later = f.faults_later;
-    longs_later = f.longs_later
-  }
+  gave = unread told;
+  given = given-unread told fo fn lo ln;
+  is = tt;
+  longed = λ e. inl tt;
+  quiet = inr (f.kept (λ e. cc));
+  short = inr (f.longs_kept (λ e. cc));
+  faults_later = f.faults_later;
+  longs_later = f.longs_later;
+}

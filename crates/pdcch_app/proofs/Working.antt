@@ -17,11 +17,11 @@ rose-wider a b c d l m r (inr e) = ⊎_elim (λ (h : c < d). inl (omega arith)) 
 
 given-wider : (told told' : Option (List ℕ)) (fo fp fq fn lo lp lq ln : ℕ) (gave : Fetched) → told' ≡ told → fo ≤ fp → fp ≤ fq → fq ≤ fn → lo ≤ lp → lp ≤ lq → lq ≤ ln → IsGiven told' fp fq lp lq gave → IsGiven told fo fn lo ln gave
 given-wider told told' fo fp fq fn lo lp lq ln gave e a b c d f g given = record {
-    fits = given.fits;
-    agrees = λ bytes h. given.agrees bytes (e ∙ h);
-    faulted = λ h. rose-wider fo fp fq fn a b c (given.faulted h);
-    longed = λ t h. rose-wider lo lp lq ln d f g (given.longed (e ∙ t) h)
-  }
+  fits = given.fits;
+  agrees = λ bytes h. given.agrees bytes (e ∙ h);
+  faulted = λ h. rose-wider fo fp fq fn a b c (given.faulted h);
+  longed = λ t h. rose-wider lo lp lq ln d f g (given.longed (e ∙ t) h);
+}
 
 all-wider : (told told' : List ℕ → Option (List ℕ)) (fo fp fq fn lo lp lq ln : ℕ) (names : List (List ℕ)) (gave : List Fetched) → ((n : List ℕ) → told' n ≡ told n) → fo ≤ fp → fp ≤ fq → fq ≤ fn → lo ≤ lp → lp ≤ lq → lq ≤ ln → AreGiven told' fp fq lp lq names gave → AreGiven told fo fn lo ln names gave
 all-wider told told' fo fp fq fn lo lp lq ln [] [] e a b c d f g given = tt
@@ -107,7 +107,7 @@ work-stop {A} next {check} {name} names told {fo} {fn} {lo} {ln} {stop} step =
       quiet = ⊎_elim (λ h. inl (faulted-outcome (read_as check name step.gave) (λ a. next a rest) h)) (λ h. inr h) step.quiet;
       short = ⊎_elim (λ h. inl (rw h refl)) (λ h. inr h) step.short;
       faults_later = step.faults_later;
-      longs_later = step.longs_later
+      longs_later = step.longs_later;
     }
 
 -- what the next steps answer is what the command answers, where the reading went well
@@ -133,7 +133,7 @@ work-step {A} next {check} {name} {names} {told} {told'} {fo} {fm} {fn} {lo} {lm
       quiet = ⊎_elim (λ h. inl (rw step.is h)) (λ (h : fn ≡ fm). ⊎_elim (λ r. absurd (rw step.is at r)) (λ (e : fm ≡ fo). inr (h ∙ e)) step.quiet) work.quiet;
       short = ⊎_elim (λ h. inl (rw step.is h)) (λ (h : ln ≡ lm). ⊎_elim (λ r. absurd (not-long check name step.gave a step.is r)) (λ (e : lm ≡ lo). inr (h ∙ e)) step.short) work.short;
       faults_later = omega (arith, step.faults_later, work.faults_later);
-      longs_later = omega (arith, step.longs_later, work.longs_later)
+      longs_later = omega (arith, step.longs_later, work.longs_later);
     }
 
 ends-of : (job : Result Printed Refusal) (result : Result Outcome Stop) (wanted : Status) → ((ended job).status ≡ wanted → ⊥) → Ends result (ended job) → EndsWith {A = Outcome} (λ o. o.status) wanted result → ⊥
@@ -144,13 +144,13 @@ ends-of job (Err OutOfMemory) wanted unlike h e = e
 -- the job behind the last reading
 pub work-end : (job : Result Printed Refusal) (told : List ℕ → Option (List ℕ)) (faults longs : ℕ) (result : Result Outcome Stop) → Ends result (ended job) → Work (λ gave. ended job) [] told faults faults longs longs result
 work-end job told faults longs result h = record {
-    gave = [];
-    given = tt;
-    is = h;
-    read = λ e. absurd (ends-of job result status.ReadFault (ended-read job) h e);
-    long = λ e. absurd (ends-of job result status.FileTooLong (ended-long job) h e);
-    quiet = inr refl;
-    short = inr refl;
-    faults_later = omega arith;
-    longs_later = omega arith
-  }
+  gave = [];
+  given = tt;
+  is = h;
+  read = λ e. absurd (ends-of job result status.ReadFault (ended-read job) h e);
+  long = λ e. absurd (ends-of job result status.FileTooLong (ended-long job) h e);
+  quiet = inr refl;
+  short = inr refl;
+  faults_later = omega arith;
+  longs_later = omega arith;
+}

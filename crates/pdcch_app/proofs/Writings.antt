@@ -29,5 +29,5 @@ written-from cell grant payload block code bits start regs blank p b c s e r g =
     let block_is : block ≡ masked (payload_10 grant) cell.rnti = b ∙ ap (λ x. masked x cell.rnti) p in
     let code_is : code ≡ code_by (ascending 1024) (ascending 164) 63 864 (masked (payload_10 grant) cell.rnti) = c ∙ ap (code_by (ascending 1024) (ascending 164) 63 864) block_is in
     let bits_is : bits ≡ scrambled (scramble_start 0 cell.cell) (code_by (ascending 1024) (ascending 164) 63 864 (masked (payload_10 grant) cell.rnti)) =
-        e ∙ ap (λ x. scrambled x code) s ∙ ap (scrambled (scramble_start 0 cell.cell)) code_is in
+    e ∙ ap (λ x. scrambled x code) s ∙ ap (scrambled (scramble_start 0 cell.cell)) code_is in
     ap (over cell.cell regs bits) g ∙ ap (λ x. over cell.cell x bits (blank_grid 1 0 0 51)) r ∙ ap (λ x. over cell.cell (candidate_regs eight_groups 0 8) x (blank_grid 1 0 0 51)) bits_is

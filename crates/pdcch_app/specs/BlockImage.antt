@@ -10,4 +10,4 @@ use Rattle.pdcch_app.specs.Watch.{Watch}
 unfoldable pub block_image : List ℕ → List ℕ → ℕ → Watch → List Bool → Image
 block_image reliability input_order slot watch block =
     image_of slot watch.symbol watch.dmrs_id watch.regs
-      (scrambled watch.scramble (code_by reliability input_order (watch.size + 24) (108 * watch.level) block))
+    (scrambled watch.scramble (code_by reliability input_order (watch.size + 24) (108 * watch.level) block))

@@ -8,6 +8,8 @@ use Rattle.pdcch_app.specs.declared.first_cell.FirstCell.{FirstCell}
 use Rattle.pdcch_app.specs.declared.first_grant.FirstGrant.{FirstGrant}
 use Rattle.pdcch_app.specs.declared.first_cell.TheConstants.{BEFORE_CELL, BEFORE_RNTI, AFTER_RNTI}
 use Rattle.pdcch_app.specs.declared.first_grant.TheConstants.{BEFORE_FDRA, BEFORE_TDRA, BEFORE_MCS, BEFORE_NDI, BEFORE_HARQ, BEFORE_TPC, BEFORE_PUCCH, BEFORE_TIMING, AFTER_TIMING}
+use Rattle.slot_grid.specs.Grid.{GridValue}
+use Rattle.pdcch_app.specs.FirstGrid.{grid_in}
 use Rattle.pdcch_app.specs.Outcome.{Refusal, Unbuilt}
 
 -- the bytes after a text, where they begin with it
@@ -81,12 +83,15 @@ abbrev pub built : {A : Type 0} → List ℕ → Option A → Result A Refusal
 built name (Some a) = Ok a
 built name None = Err (record { cause = Unbuilt; line = codes "error: not built: " ++ name })
 
--- the checks of the four files, each with the file's name
+-- the checks of the files, each with the file's name
 unfoldable pub settings_of : List ℕ → List ℕ → Result FirstCell Refusal
 settings_of name bytes = built name (settings_in bytes)
 
 unfoldable pub table_of : ℕ → List ℕ → List ℕ → Result (Unit {0}) Refusal
 table_of size name bytes = built name (cond (bytes_eq bytes (first_table size)) (Some tt) None)
+
+unfoldable pub grid_of : List ℕ → List ℕ → Result GridValue Refusal
+grid_of name bytes = built name (grid_in bytes)
 
 unfoldable pub grant_of : List ℕ → List ℕ → Result FirstGrant Refusal
 grant_of name bytes = built name (grant_in bytes)

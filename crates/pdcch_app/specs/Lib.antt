@@ -36,3 +36,4 @@ pub mod FirstGrid
 pub mod Spelling
 pub mod Entry
 pub mod Report
+pub mod Hearing

@@ -1,15 +1,20 @@
 -- The outcome of each command, step by step in the order of the work.
-use Rattle.std.specs.Prelude.{ℕ, List, [], ◌∷◌, Option, Some, None, Result, Ok, Err, String, true, codes}
+use Rattle.std.specs.Prelude.{ℕ, List, [], ◌∷◌, Option, Some, None, Result, Ok, Err, String, true, codes, option_map}
 use Rattle.std.specs.declared.alloc.Global.{Global}
+use Rattle.slot_grid.specs.Grid.{GridValue}
 use Rattle.pdcch_app.specs.declared.status.Status.TheVariants as status
 use Rattle.pdcch_app.specs.declared.words.Command.{Command}
-use Rattle.pdcch_app.specs.declared.words.Command.TheVariants.{Write}
+use Rattle.pdcch_app.specs.declared.words.Command.TheVariants.{Write, Search}
 use Rattle.pdcch_app.specs.declared.first_cell.FirstCell.{FirstCell}
 use Rattle.pdcch_app.specs.declared.first_grant.FirstGrant.{FirstGrant}
 use Rattle.pdcch_app.specs.Outcome.{Outcome, Refusal, Printed, Fetched, refused, ended, reading}
 use Rattle.pdcch_app.specs.Words.{legal, file}
-use Rattle.pdcch_app.specs.FirstForms.{settings_of, table_of, grant_of}
-use Rattle.pdcch_app.specs.Written.{grid_of_grant}
+use Rattle.pdcch_app.specs.FirstForms.{settings_of, table_of, grant_of, grid_of}
+use Rattle.pdcch_app.specs.AscendingTable.{ascending}
+use Rattle.pdcch_app.specs.Entry.{entry_of}
+use Rattle.pdcch_app.specs.Report.{report}
+use Rattle.pdcch_app.specs.Spelling.{spelled}
+use Rattle.pdcch_app.specs.Written.{grid_of_grant, first_watch}
 use Rattle.pdcch_app.specs.GridText.{grid_text}
 
 -- the bytes themselves
@@ -20,6 +25,14 @@ raw bytes = Ok bytes
 abbrev pub written : FirstCell → FirstGrant → Result Printed Refusal
 written cell grant = Ok (record { whole = true; out = grid_text (grid_of_grant cell grant); err = [] })
 
+-- the job of `search`: the report of what the grid spells at the handset's one watch
+abbrev pub searched : FirstCell → GridValue → Result Printed Refusal
+searched cell grid = Ok (record {
+  whole = true;
+  out = report grid (codes "alpha") (first_watch cell) (option_map (entry_of 11) (spelled (ascending 1024) (ascending 164) 11 grid (first_watch cell)));
+  err = [];
+})
+
 -- `write`: the settings, the two tables and the grants, each fetched and checked before the next
 abbrev pub write_of : List ℕ → List ℕ → List ℕ → List ℕ → List Fetched → Outcome
 write_of settings reliability input_order grants =
@@ -28,10 +41,19 @@ write_of settings reliability input_order grants =
     reading (table_of 164 input_order) input_order (λ _.
     reading (grant_of grants) grants (λ grant _. ended (written cell grant)))))
 
+-- `search`: the settings, the two tables and the grid, each fetched and checked before the next
+abbrev pub search_of : List ℕ → List ℕ → List ℕ → List ℕ → List Fetched → Outcome
+search_of settings reliability input_order grid =
+    reading (settings_of settings) settings (λ cell.
+    reading (table_of 1024 reliability) reliability (λ _.
+    reading (table_of 164 input_order) input_order (λ _.
+    reading (grid_of grid) grid (λ points _. ended (searched cell points)))))
+
 -- the outcome of a command
 abbrev pub served : Option Command → List (String Global) → List Fetched → Outcome
 served None words gave = refused status.Usage (codes "error: usage")
 served (Some Write) words gave = write_of (file words 0) (file words 1) (file words 2) (file words 3) gave
+served (Some Search) words gave = search_of (file words 0) (file words 1) (file words 2) (file words 3) gave
 
 -- the outcome of a run with these words, over what each fetch gave
 abbrev pub outcome : List (String Global) → List Fetched → Outcome

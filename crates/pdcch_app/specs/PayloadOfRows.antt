@@ -78,7 +78,7 @@ pub record Carries (rows : List FieldRow) (format : Format) (size : ℕ) (payloa
   pub packs : payload_of rows format values size ≡ Some payload
   pub shows : shown rows format values ≡ fields
 
--- every list of values that fit the rows
+-- every list of values that fit the rows: too many to compute
 unfoldable pub all_values : List FieldRow → List (List ℕ)
 all_values [] = [] ∷ []
 all_values (r ∷ rs) = flat_map (λ v. map (λ vs. v ∷ vs) (all_values rs)) (range_with_len 0 (2 ^ r.width))

@@ -43,4 +43,4 @@ WritesFirstForms = (words : List (String Global)) (settings reliability input_or
     → length settings ≤ limit → length reliability ≤ limit → length input_order ≤ limit → length grants ≤ limit
     → settings_in settings ≡ Some cell → reliability ≡ first_table 1024 → input_order ≡ first_table 164 → grant_in grants ≡ Some grant
     → outcome words (given_of settings ∷ given_of reliability ∷ given_of input_order ∷ given_of grants ∷ [])
-      ≡ record { status = ends.Done; out = grid_text (grid_of_grant cell grant); err = [] }
+    ≡ record { status = ends.Done; out = grid_text (grid_of_grant cell grant); err = [] }

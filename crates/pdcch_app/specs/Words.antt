@@ -4,15 +4,17 @@ use Rattle.std.specs.Str.{bytes_eq}
 use Rattle.std.specs.String.{string_bytes}
 use Rattle.std.specs.declared.alloc.Global.{Global}
 use Rattle.pdcch_app.specs.declared.words.Command.{Command}
-use Rattle.pdcch_app.specs.declared.words.Command.TheVariants.{Write}
+use Rattle.pdcch_app.specs.declared.words.Command.TheVariants.{Write, Search}
 
 -- the command that the first word names
 abbrev pub command_of : List ℕ → Option Command
-command_of word = cond (bytes_eq word (codes "write")) (Some Write) None
+command_of word =
+    cond (bytes_eq word (codes "write")) (Some Write) (cond (bytes_eq word (codes "search")) (Some Search) None)
 
 -- how many files a command takes
 abbrev pub count_of : Command → ℕ
 count_of Write = 4
+count_of Search = 4
 
 -- a word that is not empty and does not begin with `-`
 abbrev pub is_plain : List ℕ → Bool

@@ -24,11 +24,11 @@ first_watch cell = record {
   dmrs_id = cell.cell;
   scramble = scramble_start 0 cell.cell;
   rnti = cell.rnti;
-  size = 39
+  size = 39;
 }
 
 -- the grid of frame 0 and slot 0 of the cell with the grant on it
 unfoldable pub grid_of_grant : FirstCell → FirstGrant → GridValue
 grid_of_grant cell grant =
     overwritten (block_image (ascending 1024) (ascending 164) 0 (first_watch cell) (masked (payload_10 grant) cell.rnti))
-      (blank_grid 1 0 0 51)
+    (blank_grid 1 0 0 51)

@@ -1,7 +1,6 @@
 //! What a run answers: a status and two texts.
-use std::marker::Model;
-
 use crate::status::Status;
+use std::marker::Model;
 
 /// A status that the words and the files decide, with the text of the output and that of the error output.
 #[derive(Drop)]
@@ -25,6 +24,7 @@ impl Answer {
     ghost use Rattle.std.specs.Prelude.{◌≡◌, true};
     ghost use Rattle.pdcch_app.specs.Outcome.{IsOutcome};
 
+    /// An answer of these three parts.
     pub fn new(status: Status, out: Vec<u8>, err: Vec<u8>) -> Answer
         requires { IsOutcome (record { status = status; out = out.items; err = err.items }) }
         ensures { result ≡ record { status = status; out = out.items; err = err.items } }
@@ -32,6 +32,7 @@ impl Answer {
         Answer { status, out, err }
     }
 
+    /// How the run ends.
     pub fn status(&self) -> Status
         ensures status { result ≡ self.now.status }
         ensures outcome { IsOutcome self.now }
@@ -39,12 +40,14 @@ impl Answer {
         self.status
     }
 
+    /// The text of the output.
     pub fn out(&self) -> &[u8]
         ensures { result.now ≡ self.now.out }
     {
         &self.out
     }
 
+    /// The text of the error output.
     pub fn err(&self) -> &[u8]
         ensures { result.now ≡ self.now.err }
     {

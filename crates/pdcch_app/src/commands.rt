@@ -1,22 +1,24 @@
 //! The commands, each step by step in the order of its work.
 ghost use Rattle.std.specs.Prelude.{◌≡◌, ◌∷◌, [], ℕ, List};
+ghost use Rattle.pdcch_app.specs.FirstGrid.{IsFirstGrid};
 ghost use Rattle.pdcch_app.specs.Outcome.{ended};
-ghost use Rattle.pdcch_app.specs.Outcomes.{write_of, written};
+ghost use Rattle.pdcch_app.specs.Outcomes.{write_of, written, search_of, searched};
 ghost use Rattle.pdcch_app.specs.Payload.{IsInRange};
 ghost use Rattle.pdcch_app.specs.Steps.{Work, Ends};
 
-use std::alloc::Global;
-
-use outside::Shelf;
-
 use crate::answer::Answer;
-use crate::files::{grant_at, settings_at, table_at};
+use crate::files::{grant_at, grid_at, settings_at, table_at};
 use crate::first_cell::FirstCell;
 use crate::first_grant::FirstGrant;
 use crate::grid_text::grid_text;
+use crate::hearing::hear;
+use crate::report_text::report_text;
 use crate::status::Status;
 use crate::stop::Stop;
 use crate::written::grid_of_grant;
+use outside::Shelf;
+use slot_grid::Grid;
+use std::alloc::Global;
 
 /// The text of the cell's grid with the grant on it.
 fn write_text(alloc: Global, cell: &FirstCell, grant: &FirstGrant) -> Result<Answer, Stop>
@@ -48,4 +50,36 @@ pub fn write<S: Shelf>(
     table_at(alloc, shelf, 164, input_order)?;
     let grant = grant_at(alloc, shelf, grants)?;
     write_text(alloc, &cell, &grant)
+}
+
+/// The report of what the handset hears on the grid.
+fn search_text(alloc: Global, cell: &FirstCell, grid: &Grid) -> Result<Answer, Stop>
+    requires { IsFirstGrid grid.now }
+    ensures { Ends result (ended (searched cell.now grid.now)) }
+{
+    let heard = hear(grid, cell);
+    let text = report_text(alloc, grid, cell, &heard)?;
+    Ok(Answer::new(Status::Done, text, Vec::new(alloc)))
+}
+
+/// Reports what the handset of the settings hears on a grid, with the two tables.
+pub fn search<S: Shelf>(
+    alloc: Global,
+    shelf: &mut S,
+    settings: &str,
+    reliability: &str,
+    input_order: &str,
+    grid: &str,
+) -> Result<Answer, Stop>
+    requires settings { S.may shelf.old settings.now }
+    requires reliability { S.may shelf.old reliability.now }
+    requires input_order { S.may shelf.old input_order.now }
+    requires grid { S.may shelf.old grid.now }
+    ensures { Work (search_of settings.now reliability.now input_order.now grid.now) (settings.now ∷ reliability.now ∷ input_order.now ∷ grid.now ∷ []) (S.told shelf.old) (S.faults shelf.old) (S.faults shelf.new) (S.longs shelf.old) (S.longs shelf.new) result }
+{
+    let cell = settings_at(alloc, shelf, settings)?;
+    table_at(alloc, shelf, 1024, reliability)?;
+    table_at(alloc, shelf, 164, input_order)?;
+    let points = grid_at(alloc, shelf, grid)?;
+    search_text(alloc, &cell, &points)
 }

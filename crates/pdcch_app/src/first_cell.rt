@@ -7,9 +7,11 @@ use crate::reader::Reader;
 /// The text before the cell's number.
 pub const BEFORE_CELL: &[u8] = b"{\"version\":1,\"cell\":";
 /// The text between the cell's number and the handset's RNTI.
-pub const BEFORE_RNTI: &[u8] = b",\"mu\":1,\"blocks\":51,\"initial_downlink\":51,\"initial_uplink\":51,\"handsets\":[{\"name\":\"alpha\",\"rnti\":";
+pub const BEFORE_RNTI: &[u8] =
+    b",\"mu\":1,\"blocks\":51,\"initial_downlink\":51,\"initial_uplink\":51,\"handsets\":[{\"name\":\"alpha\",\"rnti\":";
 /// The text after the handset's RNTI.
-pub const AFTER_RNTI: &[u8] = b",\"downlink\":{\"start\":0,\"size\":51},\"uplink\":{\"start\":0,\"size\":51},\"codebook\":\"semi_static\",\"coresets\":[{\"number\":1,\"groups\":\"111111110000000000000000000000000000000000000\",\"duration\":1}],\"sets\":[{\"number\":1,\"coreset\":1,\"kind\":\"common\",\"period\":1,\"offset\":0,\"symbols\":\"10000000000000\",\"candidates\":[0,0,0,1,0]}]}]}";
+pub const AFTER_RNTI: &[u8] =
+    b",\"downlink\":{\"start\":0,\"size\":51},\"uplink\":{\"start\":0,\"size\":51},\"codebook\":\"semi_static\",\"coresets\":[{\"number\":1,\"groups\":\"111111110000000000000000000000000000000000000\",\"duration\":1}],\"sets\":[{\"number\":1,\"coreset\":1,\"kind\":\"common\",\"period\":1,\"offset\":0,\"symbols\":\"10000000000000\",\"candidates\":[0,0,0,1,0]}]}]}";
 
 /// What the first settings leave open.
 #[derive(Clone, Copy, Debug, PartialEq, Eq)]

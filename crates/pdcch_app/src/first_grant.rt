@@ -6,7 +6,8 @@ ghost use Rattle.pdcch_app.specs.Payload.{IsInRange};
 use crate::reader::Reader;
 
 /// The text before the number of `fdra`.
-pub const BEFORE_FDRA: &[u8] = b"{\"frame\":0,\"slot\":0,\"grants\":[{\"handset\":\"alpha\",\"set\":1,\"level\":8,\"format\":\"1_0\",\"fields\":{\"fdra\":";
+pub const BEFORE_FDRA: &[u8] =
+    b"{\"frame\":0,\"slot\":0,\"grants\":[{\"handset\":\"alpha\",\"set\":1,\"level\":8,\"format\":\"1_0\",\"fields\":{\"fdra\":";
 /// The text before the number of `tdra`.
 pub const BEFORE_TDRA: &[u8] = b",\"tdra\":";
 /// The text before the number of `mcs`.

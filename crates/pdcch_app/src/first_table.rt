@@ -3,9 +3,8 @@ ghost use Rattle.std.specs.Prelude.{◌≡◌, ◌≤◌, IfOk};
 ghost use Rattle.std.specs.Str.{bytes_eq};
 ghost use Rattle.pdcch_app.specs.FirstForms.{first_table};
 
-use std::alloc::{AllocError, Global};
-
 use crate::decimal_text::push_number;
+use std::alloc::{AllocError, Global};
 
 /// The first table of a size.
 #[tactic(auto, using(crate::proofs::FirstTables::joined_more), unfolding(crate::specs::FirstForms::first_table))]

@@ -2,11 +2,9 @@
 ghost use Rattle.std.specs.Prelude.{◌≡◌, ◌++◌, ◌<◌, IfOk, OnOk};
 ghost use Rattle.pdcch_app.specs.GridText.{grid_text, grid_head, symbol_line, point_byte};
 
-use std::alloc::{AllocError, Global};
-
-use slot_grid::{Grid, Point};
-
 use crate::decimal_text::push_number;
+use slot_grid::{Grid, Point};
+use std::alloc::{AllocError, Global};
 
 /// The character of a point.
 fn point_byte(point: Point) -> u8

@@ -1,9 +1,7 @@
 //! What a handset heard at a watch.
-use std::marker::Model;
-
-use arrayvec::ArrayVec;
-
 use crate::fields::{FieldValue, Format};
+use arrayvec::ArrayVec;
+use std::marker::Model;
 
 /// A format that was heard, with its shown fields in order.
 #[derive(Debug, Drop)]

@@ -14,10 +14,12 @@ mod first_grid;
 mod first_table;
 mod grid_text;
 mod heard;
+mod hearing;
 pub mod laws;
 mod payload;
 mod points;
 mod reader;
+mod report_text;
 mod resources;
 mod status;
 mod stop;
@@ -27,12 +29,9 @@ mod top;
 mod words;
 mod written;
 
-use std::env;
-use std::io;
-use std::process::ExitCode;
-
 use outside::{FileShelf, StdSink};
-
+use std::process::ExitCode;
+use std::{env, io};
 use top::run;
 
 #[cfg(test)]

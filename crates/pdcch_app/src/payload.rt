@@ -2,9 +2,8 @@
 ghost use Rattle.std.specs.Prelude.{◌≡◌, length};
 ghost use Rattle.pdcch_app.specs.Payload.{IsInRange, payload_10};
 
-use bits_core::Payload;
-
 use crate::first_grant::FirstGrant;
+use bits_core::Payload;
 
 /// The 39 bits of a downlink assignment of format 1_0 (3GPP TS 38.212, 7.3.1.2.1).
 #[tactic(auto, unfolding(crate::specs::Payload::payload_10))]

@@ -4,12 +4,10 @@ ghost use Rattle.pdcch_app.specs.declared.stop.Stop.TheVariants.{OutOfMemory};
 ghost use Rattle.pdcch_app.specs.Outcome.{is_done, is_cause, refused};
 ghost use Rattle.pdcch_app.specs.Steps.{IsStop};
 
-use std::alloc::{AllocError, AllocFailed, Global};
-
-use bits_core::NoMemory;
-
 use crate::answer::Answer;
 use crate::status::Status;
+use bits_core::NoMemory;
+use std::alloc::{AllocError, AllocFailed, Global};
 
 /// Why a run stops before its job is done.
 #[derive(Drop)]

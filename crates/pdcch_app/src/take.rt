@@ -3,13 +3,11 @@ ghost use Rattle.std.specs.Prelude.{◌≡◌, ℕ, List};
 ghost use Rattle.pdcch_app.specs.Steps.{Step};
 ghost use Rattle.pdcch_app.specs.Outcomes.{raw};
 
-use std::alloc::Global;
-
-use outside::{FetchFault, Shelf};
-
 use crate::status::Status;
 use crate::stop::{Stop, refusal};
 use crate::text::Text;
+use outside::{FetchFault, Shelf};
+use std::alloc::Global;
 
 /// The greatest number of bytes of a file.
 const LIMIT: usize = 8_388_608;
@@ -24,9 +22,7 @@ pub fn take<S: Shelf>(alloc: Global, shelf: &mut S, name: &str) -> Result<Text, 
     let mut bytes = Vec::new(alloc);
     match shelf.fetch(alloc, name, LIMIT, &mut bytes) {
         Ok(()) => Ok(Text::from_vec(bytes)),
-        Err(FetchFault::Failed) => {
-            Err(refusal(alloc, Status::ReadFault, b"error: read ", name))
-        }
+        Err(FetchFault::Failed) => { Err(refusal(alloc, Status::ReadFault, b"error: read ", name)) }
         Err(FetchFault::TooLong) => {
             Err(refusal(alloc, Status::FileTooLong, b"error: too long: ", name))
         }

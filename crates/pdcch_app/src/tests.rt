@@ -1,35 +1,52 @@
 //! Runs over memory whose outputs come from outside: the first grid is a published example, the two others
 //! were made by a second program, written apart from this one.
 
+use crate::status::Status;
+use crate::top::run;
+use outside::{MemoryShelf, MemorySink, NamedBytes};
 use std::alloc::{AllocError, Global};
 use std::test::Fail;
 
-use outside::{MemoryShelf, MemorySink, NamedBytes};
-
-use crate::status::Status;
-use crate::top::run;
-
 /// A first settings text.
-const SETTINGS: &str = "{\"version\":1,\"cell\":500,\"mu\":1,\"blocks\":51,\"initial_downlink\":51,\"initial_uplink\":51,\"handsets\":[{\"name\":\"alpha\",\"rnti\":17,\"downlink\":{\"start\":0,\"size\":51},\"uplink\":{\"start\":0,\"size\":51},\"codebook\":\"semi_static\",\"coresets\":[{\"number\":1,\"groups\":\"111111110000000000000000000000000000000000000\",\"duration\":1}],\"sets\":[{\"number\":1,\"coreset\":1,\"kind\":\"common\",\"period\":1,\"offset\":0,\"symbols\":\"10000000000000\",\"candidates\":[0,0,0,1,0]}]}]}";
+const SETTINGS: &str =
+    "{\"version\":1,\"cell\":500,\"mu\":1,\"blocks\":51,\"initial_downlink\":51,\"initial_uplink\":51,\"handsets\":[{\"name\":\"alpha\",\"rnti\":17,\"downlink\":{\"start\":0,\"size\":51},\"uplink\":{\"start\":0,\"size\":51},\"codebook\":\"semi_static\",\"coresets\":[{\"number\":1,\"groups\":\"111111110000000000000000000000000000000000000\",\"duration\":1}],\"sets\":[{\"number\":1,\"coreset\":1,\"kind\":\"common\",\"period\":1,\"offset\":0,\"symbols\":\"10000000000000\",\"candidates\":[0,0,0,1,0]}]}]}";
 
 /// A first grants text.
-const GRANTS: &str = "{\"frame\":0,\"slot\":0,\"grants\":[{\"handset\":\"alpha\",\"set\":1,\"level\":8,\"format\":\"1_0\",\"fields\":{\"fdra\":101,\"tdra\":2,\"mcs\":10,\"ndi\":1,\"harq\":3,\"tpc\":1,\"pucch\":5,\"timing\":3}}]}";
+const GRANTS: &str =
+    "{\"frame\":0,\"slot\":0,\"grants\":[{\"handset\":\"alpha\",\"set\":1,\"level\":8,\"format\":\"1_0\",\"fields\":{\"fdra\":101,\"tdra\":2,\"mcs\":10,\"ndi\":1,\"harq\":3,\"tpc\":1,\"pucch\":5,\"timing\":3}}]}";
 
 /// The points of symbol 0 on subcarriers 0 to 575 with these settings and grants.
-const POINTS: &str = "011131300033122211112021002002223101103220223232131010103312003211211031301033000030300230111310113312130312321210012321311032302022312012222000133221031233220003133202201111001200202013300100331020132023030322303100333022331021203230211033233210033003323122121330322123001221130300201321023023310310133203020001120100301232121233032213023223113232031022311131021333311023010102102331332220223030211333322122311011303221210331310331123100012332021011033221210031002312000320130101220223210100133232300133311312002331222211012330320101313032311321322111201232202211303113012221";
+const POINTS: &str =
+    "011131300033122211112021002002223101103220223232131010103312003211211031301033000030300230111310113312130312321210012321311032302022312012222000133221031233220003133202201111001200202013300100331020132023030322303100333022331021203230211033233210033003323122121330322123001221130300201321023023310310133203020001120100301232121233032213023223113232031022311131021333311023010102102331332220223030211333322122311011303221210331310331123100012332021011033221210031002312000320130101220223210100133232300133311312002331222211012330320101313032311321322111201232202211303113012221";
 
 /// The same with cell 0, RNTI 1 and every field 0.
-const LEAST: &str = "113100330132321121002121023131301231112330323111230023211200311123311123322332302030231012103002103102313323323131332320030322032020212011320021102322302313031301200220010102211323230033321122012000200013010201213130313203310120012203030303113202323333313032313032331233132332112212022300111023132222211332320222103320322331233220122212203100131023232121301122020233123222020333331121202132323122201220120023133221112030310322012200233002010031212031232031320032103123212313232221202012221112211331321333331223001231203330212313331211221122211322112021210221012021023001202020";
+const LEAST: &str =
+    "113100330132321121002121023131301231112330323111230023211200311123311123322332302030231012103002103102313323323131332320030322032020212011320021102322302313031301200220010102211323230033321122012000200013010201213130313203310120012203030303113202323333313032313032331233132332112212022300111023132222211332320222103320322331233220122212203100131023232121301122020233123222020333331121202132323122201220120023133221112030310322012200233002010031212031232031320032103123212313232221202012221112211331321333331223001231203330212313331211221122211322112021210221012021023001202020";
 
 /// The same with cell 1007, RNTI 65519 and every field at its greatest value.
-const GREATEST: &str = "122231303103133110223232021213010233012320121200223111321213323132321212202111110201020121322013202020202200302030311123321101212122321212031030111020213121001023112230013202211333222120100210213322322331311333323013020032332100011313133212200332211100101113032002321001031211221123010132313032031030301233212012021131212020130130213303330322212112122311333120203121030013303322212333021213332021110210332230222213301333313322000223313132321223132013210020230323001301312100330223121222232202320032220303330030220332020312300202310121201011022120232211113223131220103310103202";
+const GREATEST: &str =
+    "122231303103133110223232021213010233012320121200223111321213323132321212202111110201020121322013202020202200302030311123321101212122321212031030111020213121001023112230013202211333222120100210213322322331311333323013020032332100011313133212200332211100101113032002321001031211221123010132313032031030301233212012021131212020130130213303330322212112122311333120203121030013303322212333021213332021110210332230222213301333313322000223313132321223132013210020230323001301312100330223121222232202320032220303330030220332020312300202310121201011022120232211113223131220103310103202";
+
+/// Those that a grant of format 0_0 writes for the handset of the settings: fdra 2047, tdra 9, hopping 1, mcs 17, ndi 1,
+/// rv 2, harq 11, tpc 3 and eight zeros.
+const UPLINK: &str =
+    "111201103010123201322020201132022102201210013221130200202313200211332022101333130022201200231322013022333331320200222311211112002030013332223023030021330203322133120203000011333203003023020132031120011020031332133101130112131033102110221020232000332033221032112310020223100202130220112301123313113333132103101031020020001220220113002200022033010200032212301123321323120011011132222303032310231023210323112123112121100220110211200302323220111300022221023233110331103331000200223121221013322103132132221103212302213332120221202303120221012033112311332103101222033223303033301201";
+
+/// The same with 1 for the last of the eight zeros.
+const BAD_PADDING: &str =
+    "211231113021122011103010202122011102101310303233032010303332002321331023102233011000302200130321313012323300321010003301313032211030313232113020031011231222120023132211201311303213300023321131131000133031030122312131133102102033202010131032330210233012023102111311023323021220033220213302223323103302133313320021122100212220120013312212120223310230132102313131120023110001312132123300132230313032211133333113111131131221311031330301322210211330122131031221311231022313103200122122121023332132133322000113310222000332220321132300121211113012310201320111300122003233000033000202";
+
+/// Those of a PDCCH order: preamble 9, ssb 5, the others 0.
+const ORDER: &str =
+    "012131311001322111323001302022213131103330100211333200323322200331221033302203232012200130110303110312121320121110223303312012010021312212102030131211203201022123210220000121001211102313301113133010111031230022132120033002303022203030132010031000201031121022221331221303031202032330203322020023301322231123201023123120013231121033311230221033123232130302112133320133011003310202103322131010001022011033113102011031331213112111213331122030022332120331230223111211032331102310132102020123230132231112121110112132212301222301311330321031133002112201121113100032102231001123010222";
 
 /// The text of a grid of 51 blocks with these points at the front of symbol 0.
 fn grid(alloc: Global, points: &str) -> Result<String, AllocError> {
     let mut text = String::from_str(alloc, "nrpdcch grid 1\nmu 1 frame 0 slot 0 blocks 51\n")?;
     text.push_str(points)?;
     for symbol in 0..14u8 {
-        for _ in (if symbol == 0 { 576 } else { 0u16 })..612 {
+        let written = if symbol == 0 { points.len() } else { 0 };
+        for _ in written..612 {
             text.push('.')?;
         }
         text.push('\n')?;
@@ -86,9 +103,12 @@ fn one_grant(rt: HostRuntime) -> Result<(), Fail> {
     let alloc = rt.alloc();
     let list = words(alloc, &["write", "s", "r", "i", "g"])?;
     let reliability = table(alloc, 1024, true)?;
-    let fields = "\"fdra\":101,\"tdra\":2,\"mcs\":10,\"ndi\":1,\"harq\":3,\"tpc\":1,\"pucch\":5,\"timing\":3";
-    let least = "\"fdra\":0,\"tdra\":0,\"mcs\":0,\"ndi\":0,\"harq\":0,\"tpc\":0,\"pucch\":0,\"timing\":0";
-    let greatest = "\"fdra\":2046,\"tdra\":15,\"mcs\":31,\"ndi\":1,\"harq\":15,\"tpc\":3,\"pucch\":7,\"timing\":7";
+    let fields =
+        "\"fdra\":101,\"tdra\":2,\"mcs\":10,\"ndi\":1,\"harq\":3,\"tpc\":1,\"pucch\":5,\"timing\":3";
+    let least =
+        "\"fdra\":0,\"tdra\":0,\"mcs\":0,\"ndi\":0,\"harq\":0,\"tpc\":0,\"pucch\":0,\"timing\":0";
+    let greatest =
+        "\"fdra\":2046,\"tdra\":15,\"mcs\":31,\"ndi\":1,\"harq\":15,\"tpc\":3,\"pucch\":7,\"timing\":7";
     let cases = [
         ("\"cell\":500", "\"rnti\":17", fields, POINTS),
         ("\"cell\":0", "\"rnti\":1", least, LEAST),
@@ -99,7 +119,12 @@ fn one_grant(rt: HostRuntime) -> Result<(), Fail> {
             .replace(alloc, "\"cell\":500", cell)?
             .replace(alloc, "\"rnti\":17", rnti)?;
         let grants = GRANTS.replace(alloc, fields, values)?;
-        let objects = files(alloc, settings.as_str(), reliability.as_str(), grants.as_str())?;
+        let objects = files(
+            alloc,
+            settings.as_str(),
+            reliability.as_str(),
+            grants.as_str(),
+        )?;
         let mut shelf = MemoryShelf::new(objects, Vec::new(alloc));
         let mut out = MemorySink::new(alloc, 1_048_576, 1_048_576, Vec::new(alloc))?;
         let mut err = MemorySink::new(alloc, 1_048_576, 1_048_576, Vec::new(alloc))?;
@@ -116,30 +141,201 @@ const NEVER: u64 = u64::MAX;
 
 /// Words with single spaces between, the fetch that fails, an edit of the settings and one of the grants, and what a
 /// run on these ends with.
-type Case = (&'static str, u64, &'static str, &'static str, Status, &'static str);
+type Case = (
+    &'static str,
+    u64,
+    &'static str,
+    &'static str,
+    Status,
+    &'static str,
+);
 
-const CASES: [Case; 21] = [
-    ("write a b c", NEVER, "", "", Status::Usage, "error: usage\n"),
+const CASES: [Case; 24] = [
+    (
+        "write a b c",
+        NEVER,
+        "",
+        "",
+        Status::Usage,
+        "error: usage\n",
+    ),
     ("", NEVER, "", "", Status::Usage, "error: usage\n"),
-    ("writes s r i g", NEVER, "", "", Status::Usage, "error: usage\n"),
-    ("write s  i g", NEVER, "", "", Status::Usage, "error: usage\n"),
-    ("write s r i -g", NEVER, "", "", Status::Usage, "error: usage\n"),
-    ("write s r i g g", NEVER, "", "", Status::Usage, "error: usage\n"),
-    ("write s r i g", 2, "", "", Status::ReadFault, "error: read i\n"),
-    ("write s r x g", NEVER, "", "", Status::ReadFault, "error: read x\n"),
-    ("write s i i g", NEVER, "", "", Status::NotBuilt, "error: not built: i\n"),
-    ("write s r i g", NEVER, "500", "1008", Status::NotBuilt, "error: not built: s\n"),
-    ("write s r i g", NEVER, "500", "0500", Status::NotBuilt, "error: not built: s\n"),
-    ("write s r i g", NEVER, "500", "", Status::NotBuilt, "error: not built: s\n"),
-    ("write s r i g", NEVER, "17", "0", Status::NotBuilt, "error: not built: s\n"),
-    ("write s r i g", NEVER, "17", "65520", Status::NotBuilt, "error: not built: s\n"),
-    ("write s r i g", NEVER, "17", "4294967313", Status::NotBuilt, "error: not built: s\n"),
-    ("write s r i g", NEVER, "0]}]}]}", "0]}]}]}\n", Status::NotBuilt, "error: not built: s\n"),
-    ("write s r i g", NEVER, "101", "2047", Status::NotBuilt, "error: not built: g\n"),
-    ("write s r i g", NEVER, "\"tdra\":2", "\"tdra\":16", Status::NotBuilt, "error: not built: g\n"),
-    ("write s r i g", NEVER, "\"ndi\":1", "\"ndi\":2", Status::NotBuilt, "error: not built: g\n"),
-    ("write s r i g", NEVER, "\"timing\":3", "\"timing\":03", Status::NotBuilt, "error: not built: g\n"),
-    ("write s r i g", NEVER, "\"slot\":0", "\"slot\":20", Status::NotBuilt, "error: not built: g\n"),
+    (
+        "writes s r i g",
+        NEVER,
+        "",
+        "",
+        Status::Usage,
+        "error: usage\n",
+    ),
+    (
+        "write s  i g",
+        NEVER,
+        "",
+        "",
+        Status::Usage,
+        "error: usage\n",
+    ),
+    (
+        "write s r i -g",
+        NEVER,
+        "",
+        "",
+        Status::Usage,
+        "error: usage\n",
+    ),
+    (
+        "write s r i g g",
+        NEVER,
+        "",
+        "",
+        Status::Usage,
+        "error: usage\n",
+    ),
+    (
+        "write s r i g",
+        2,
+        "",
+        "",
+        Status::ReadFault,
+        "error: read i\n",
+    ),
+    (
+        "search s r i",
+        NEVER,
+        "",
+        "",
+        Status::Usage,
+        "error: usage\n",
+    ),
+    (
+        "search s r i g",
+        3,
+        "",
+        "",
+        Status::ReadFault,
+        "error: read g\n",
+    ),
+    (
+        "search s r i g",
+        NEVER,
+        "",
+        "",
+        Status::NotBuilt,
+        "error: not built: g\n",
+    ),
+    (
+        "write s r x g",
+        NEVER,
+        "",
+        "",
+        Status::ReadFault,
+        "error: read x\n",
+    ),
+    (
+        "write s i i g",
+        NEVER,
+        "",
+        "",
+        Status::NotBuilt,
+        "error: not built: i\n",
+    ),
+    (
+        "write s r i g",
+        NEVER,
+        "500",
+        "1008",
+        Status::NotBuilt,
+        "error: not built: s\n",
+    ),
+    (
+        "write s r i g",
+        NEVER,
+        "500",
+        "0500",
+        Status::NotBuilt,
+        "error: not built: s\n",
+    ),
+    (
+        "write s r i g",
+        NEVER,
+        "500",
+        "",
+        Status::NotBuilt,
+        "error: not built: s\n",
+    ),
+    (
+        "write s r i g",
+        NEVER,
+        "17",
+        "0",
+        Status::NotBuilt,
+        "error: not built: s\n",
+    ),
+    (
+        "write s r i g",
+        NEVER,
+        "17",
+        "65520",
+        Status::NotBuilt,
+        "error: not built: s\n",
+    ),
+    (
+        "write s r i g",
+        NEVER,
+        "17",
+        "4294967313",
+        Status::NotBuilt,
+        "error: not built: s\n",
+    ),
+    (
+        "write s r i g",
+        NEVER,
+        "0]}]}]}",
+        "0]}]}]}\n",
+        Status::NotBuilt,
+        "error: not built: s\n",
+    ),
+    (
+        "write s r i g",
+        NEVER,
+        "101",
+        "2047",
+        Status::NotBuilt,
+        "error: not built: g\n",
+    ),
+    (
+        "write s r i g",
+        NEVER,
+        "\"tdra\":2",
+        "\"tdra\":16",
+        Status::NotBuilt,
+        "error: not built: g\n",
+    ),
+    (
+        "write s r i g",
+        NEVER,
+        "\"ndi\":1",
+        "\"ndi\":2",
+        Status::NotBuilt,
+        "error: not built: g\n",
+    ),
+    (
+        "write s r i g",
+        NEVER,
+        "\"timing\":3",
+        "\"timing\":03",
+        Status::NotBuilt,
+        "error: not built: g\n",
+    ),
+    (
+        "write s r i g",
+        NEVER,
+        "\"slot\":0",
+        "\"slot\":20",
+        Status::NotBuilt,
+        "error: not built: g\n",
+    ),
 ];
 
 #[test]
@@ -157,7 +353,12 @@ fn refusals(rt: HostRuntime) -> Result<(), Fail> {
         for word in line.split(' ') {
             list.push(String::from_str(alloc, word)?)?;
         }
-        let objects = files(alloc, settings.as_str(), reliability.as_str(), grants.as_str())?;
+        let objects = files(
+            alloc,
+            settings.as_str(),
+            reliability.as_str(),
+            grants.as_str(),
+        )?;
         let mut shelf = MemoryShelf::new(objects, vec![in alloc; failing]?);
         let mut out = MemorySink::new(alloc, 1_048_576, 1_048_576, Vec::new(alloc))?;
         let mut err = MemorySink::new(alloc, 1_048_576, 1_048_576, Vec::new(alloc))?;
@@ -169,21 +370,106 @@ fn refusals(rt: HostRuntime) -> Result<(), Fail> {
     Ok(())
 }
 
+/// The points of symbol 0, up to two places in the text with another byte, and what is heard.
+type Grid = (&'static str, [(usize, char); 2], &'static str);
+
+const NO_EDIT: (usize, char) = (0, 'n');
+
+const HEARD: [Grid; 14] = [
+    (
+        POINTS,
+        [NO_EDIT, NO_EDIT],
+        "1_0 fdra=101 tdra=2 vrb=0 mcs=10 ndi=1 rv=0 harq=3 dai=0 tpc=1 pucch=5 timing=3",
+    ),
+    (
+        UPLINK,
+        [NO_EDIT, NO_EDIT],
+        "0_0 fdra=2047 tdra=9 hopping=1 mcs=17 ndi=1 rv=2 harq=11 tpc=3",
+    ),
+    (
+        ORDER,
+        [NO_EDIT, NO_EDIT],
+        "order preamble=9 supplementary=0 ssb=5 mask=0 reserved=0",
+    ),
+    (BAD_PADDING, [NO_EDIT, NO_EDIT], ""),
+    ("", [NO_EDIT, NO_EDIT], ""),
+    (GREATEST, [NO_EDIT, NO_EDIT], ""),
+    (POINTS, [(445, '1'), NO_EDIT], ""),
+    (POINTS, [(445, '2'), NO_EDIT], ""),
+    (POINTS, [(445, '0'), NO_EDIT], ""),
+    (POINTS, [(46, '3'), NO_EDIT], ""),
+    (POINTS, [(45, '.'), NO_EDIT], ""),
+    (POINTS, [(45, '2'), NO_EDIT], ""),
+    (POINTS, [(45, '2'), (387, '3')], ""),
+    (POINTS, [(45, '.'), (50, '.')], ""),
+];
+
+#[test]
+fn searches(rt: HostRuntime) -> Result<(), Fail> {
+    let alloc = rt.alloc();
+    let list = words(alloc, &["search", "s", "r", "i", "g"])?;
+    let reliability = table(alloc, 1024, true)?;
+    for (points, edits, heard) in HEARD {
+        let text = grid(alloc, points)?;
+        let mut edited = String::new(alloc);
+        for (at, byte) in text.chars().enumerate() {
+            let [(first, one), (second, other)] = edits;
+            let byte = if first > 0 && at == first { one } else { byte };
+            edited.push(if second > 0 && at == second {
+                other
+            } else {
+                byte
+            })?;
+        }
+        let want = if heard.is_empty() {
+            String::from_str(alloc, "frame 0 slot 0\nhandset alpha watches 1 heard 0\n")?
+        } else {
+            format!(in alloc;
+                "frame 0 slot 0\nhandset alpha watches 1 heard 1\nset 1 symbol 0 level 8 candidate 0 size 39 rnti 0011 {heard}\n"
+            )?
+        };
+        let objects = files(alloc, SETTINGS, reliability.as_str(), edited.as_str())?;
+        let mut shelf = MemoryShelf::new(objects, Vec::new(alloc));
+        let mut out = MemorySink::new(alloc, 1_048_576, 1_048_576, Vec::new(alloc))?;
+        let mut err = MemorySink::new(alloc, 1_048_576, 1_048_576, Vec::new(alloc))?;
+        let status = run(&rt, alloc, &list, &mut shelf, &mut out, &mut err);
+        assert_eq!(rt; status, Status::Done, "{heard} {edits:?}");
+        assert_eq!(rt; out.bytes(), want.as_bytes(), "{heard} {edits:?}");
+        assert!(rt; err.bytes().is_empty(), "{heard} {edits:?}");
+    }
+    Ok(())
+}
+
 #[test]
 fn tables_and_lengths(rt: HostRuntime) -> Result<(), Fail> {
     let alloc = rt.alloc();
     let ascending = table(alloc, 1024, true)?;
     let descending = table(alloc, 1024, false)?;
     let mut longest = String::from_str(alloc, SETTINGS)?;
-    while longest.len() < 8_388_608 {
+    for _ in SETTINGS.len()..8_388_608 {
         longest.push(' ')?;
     }
     let mut longer = longest.clone()?;
     longer.push(' ')?;
     let cases = [
-        (SETTINGS, descending.as_str(), Status::NotBuilt, "error: not built: r\n"),
-        (longest.as_str(), ascending.as_str(), Status::NotBuilt, "error: not built: s\n"),
-        (longer.as_str(), ascending.as_str(), Status::FileTooLong, "error: too long: s\n"),
+        (
+            SETTINGS,
+            descending.as_str(),
+            Status::NotBuilt,
+            "error: not built: r\n",
+        ),
+        (
+            longest.as_str(),
+            ascending.as_str(),
+            Status::NotBuilt,
+            "error: not built: s\n",
+        ),
+        (
+            longer.as_str(),
+            ascending.as_str(),
+            Status::FileTooLong,
+            "error: too long: s\n",
+        ),
     ];
     let list = words(alloc, &["write", "s", "r", "i", "g"])?;
     for (settings, reliability, status, line) in cases {

@@ -7,16 +7,14 @@ ghost use Rattle.pdcch_app.specs.Outcomes.{outcome};
 ghost use Rattle.pdcch_app.specs.Steps.{Work};
 ghost use Rattle.pdcch_app.specs.Ran.{Ran, IsDelivered, AreTold, IsComplete};
 
-use std::alloc::Global;
-use std::thread::Threads;
-
-use outside::{Shelf, Sink, put_all};
-
 use crate::answer::Answer;
-use crate::commands::write;
+use crate::commands::{search, write};
 use crate::status::Status;
 use crate::stop::{Stop, refusal};
 use crate::words::{Command, file, legal};
+use outside::{Shelf, Sink, put_all};
+use std::alloc::Global;
+use std::thread::Threads;
 
 /// The answer to the words, over what the fetches give.
 fn answer_of<S: Shelf>(alloc: Global, words: &[String], shelf: &mut S) -> Result<Answer, Stop>
@@ -26,6 +24,14 @@ fn answer_of<S: Shelf>(alloc: Global, words: &[String], shelf: &mut S) -> Result
     match legal(words) {
         None => Err(refusal(alloc, Status::Usage, b"error: ", "usage")),
         Some(Command::Write) => write(
+            alloc,
+            shelf,
+            file(words, 0),
+            file(words, 1),
+            file(words, 2),
+            file(words, 3),
+        ),
+        Some(Command::Search) => search(
             alloc,
             shelf,
             file(words, 0),
@@ -70,9 +76,7 @@ fn run_once<S: Shelf, K: Sink, L: Sink>(
         Ok(answer) | Err(Stop::Ended(answer)) => {
             deliver(answer.status(), answer.out(), answer.err(), out, err)
         }
-        Err(Stop::OutOfMemory) => {
-            deliver(Status::NoMemory, b"", b"error: memory\n", out, err)
-        }
+        Err(Stop::OutOfMemory) => { deliver(Status::NoMemory, b"", b"error: memory\n", out, err) }
     }
 }
 

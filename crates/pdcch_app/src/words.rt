@@ -7,6 +7,8 @@ ghost use Rattle.pdcch_app.specs.Words.{legal, files, file, count_of, command_of
 pub enum Command {
     /// Writes the grid of one slot.
     Write,
+    /// Reports what the handsets hear on a grid.
+    Search,
 }
 
 impl Command {
@@ -16,6 +18,7 @@ impl Command {
     {
         match self {
             Command::Write => 4,
+            Command::Search => 4,
         }
     }
 }
@@ -25,6 +28,8 @@ fn command_of(word: &[u8]) -> Option<Command>
 {
     if word == b"write".as_slice() {
         Some(Command::Write)
+    } else if word == b"search".as_slice() {
+        Some(Command::Search)
     } else {
         None
     }

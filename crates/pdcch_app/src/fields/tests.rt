@@ -23,55 +23,56 @@ type Case = (
     &'static [(&'static [u8], u32)],
 );
 
+const CASES: [Case; 5] = [
+    (
+        b"100001100101001000101010000110001101011",
+        Some(Format::F10),
+        &[
+            (b"fdra", 101),
+            (b"tdra", 2),
+            (b"vrb", 0),
+            (b"mcs", 10),
+            (b"ndi", 1),
+            (b"rv", 0),
+            (b"harq", 3),
+            (b"dai", 0),
+            (b"tpc", 1),
+            (b"pucch", 5),
+            (b"timing", 3),
+        ],
+    ),
+    (
+        b"111111111111001001000010100000000000000",
+        Some(Format::Order),
+        &[
+            (b"preamble", 9),
+            (b"supplementary", 0),
+            (b"ssb", 5),
+            (b"mask", 0),
+            (b"reserved", 0),
+        ],
+    ),
+    (
+        b"000011010110010111000101010011100000000",
+        Some(Format::F00),
+        &[
+            (b"fdra", 214),
+            (b"tdra", 5),
+            (b"hopping", 1),
+            (b"mcs", 17),
+            (b"ndi", 0),
+            (b"rv", 2),
+            (b"harq", 9),
+            (b"tpc", 3),
+        ],
+    ),
+    (b"000011010110010111000101010011100000001", None, &[]),
+    (b"000011010110010111000101010011110000000", None, &[]),
+];
+
 #[test]
 fn payloads_are_read_in_their_format_alone(rt: HostRuntime) {
-    let cases: [Case; 5] = [
-        (
-            b"100001100101001000101010000110001101011",
-            Some(Format::F10),
-            &[
-                (b"fdra", 101),
-                (b"tdra", 2),
-                (b"vrb", 0),
-                (b"mcs", 10),
-                (b"ndi", 1),
-                (b"rv", 0),
-                (b"harq", 3),
-                (b"dai", 0),
-                (b"tpc", 1),
-                (b"pucch", 5),
-                (b"timing", 3),
-            ],
-        ),
-        (
-            b"111111111111001001000010100000000000000",
-            Some(Format::Order),
-            &[
-                (b"preamble", 9),
-                (b"supplementary", 0),
-                (b"ssb", 5),
-                (b"mask", 0),
-                (b"reserved", 0),
-            ],
-        ),
-        (
-            b"000011010110010111000101010011100000000",
-            Some(Format::F00),
-            &[
-                (b"fdra", 214),
-                (b"tdra", 5),
-                (b"hopping", 1),
-                (b"mcs", 17),
-                (b"ndi", 0),
-                (b"rv", 2),
-                (b"harq", 9),
-                (b"tpc", 3),
-            ],
-        ),
-        (b"000011010110010111000101010011100000001", None, &[]),
-        (b"000011010110010111000101010011110000000", None, &[]),
-    ];
-    for (text, known, expected) in cases {
+    for (text, known, expected) in CASES {
         assert!(rt; text.len() == 39);
         let payload = payload_of(text);
         for format in [Format::F00, Format::F10, Format::Order] {
