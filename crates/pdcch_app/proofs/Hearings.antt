@@ -1,5 +1,5 @@
 -- What a grid carries at the one watch of the first cell, and what it spells there: one payload at most, and one spelling.
-use Rattle.std.proofs.Common.{◌≡◌, ◌↔◌, ℕ, ◌+◌, ◌*◌, ◌<◌, ◌≤◌, Bool, true, false, cond, List, [], ◌∷◌, ◌++◌, Option, Some, None, MatchOption, length, map, get_or, option_map, refl, ap, sym, subst, ◌∙◌, arith}
+use Rattle.std.proofs.Common.{◌≡◌, ◌↔◌, ℕ, ◌*◌, ◌<◌, ◌≤◌, Bool, true, false, cond, List, [], ◌∷◌, Option, Some, None, MatchOption, length, map, get_or, option_map, refl, ap, sym, subst, ◌∙◌, arith}
 use Rattle.std.specs.List.{range_with_len, flat_map, find, list_all, Contains}
 use Rattle.std.proofs.lemmas.List.{length-map, get_or-map}
 use Rattle.std.proofs.lemmas.List.Elements.{Contains-append_left, Contains-append_right}
@@ -24,12 +24,12 @@ use Rattle.pdcch_app.specs.Decoding.{IsCodeOf}
 use Rattle.pdcch_app.specs.Entry.{Entry, entry_of}
 use Rattle.pdcch_app.specs.Fields.{rows_of}
 use Rattle.pdcch_app.specs.FirstResources.{eight_groups}
-use Rattle.pdcch_app.specs.Hearing.{AgreesWith, IsCarried, IsReadAs, Spells, FindsWhatIsSpelled}
+use Rattle.pdcch_app.specs.Hearing.{IsCarried, IsReadAs, Spells, FindsWhatIsSpelled}
 use Rattle.pdcch_app.specs.Held.{Holds}
 use Rattle.pdcch_app.specs.PayloadOfRows.{payload_of, all_values, Carries}
 use Rattle.pdcch_app.specs.PointsOnGrid.{image_of, AreInside}
 use Rattle.pdcch_app.specs.Scrambling.{scrambled, scramble_start}
-use Rattle.pdcch_app.specs.Spelling.{Spelling, formats, all_spellings, is_point, fits_there, agrees, carries, spells, spelled}
+use Rattle.pdcch_app.specs.Spelling.{Spelling, all_spellings, is_point, fits_there, agrees, carries, spells, spelled}
 use Rattle.pdcch_app.specs.Watch.{Watch}
 use Rattle.pdcch_app.specs.Written.{first_watch}
 use Rattle.pdcch_app.proofs.CodingOfBlock.{length-code}

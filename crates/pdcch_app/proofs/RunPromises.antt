@@ -8,10 +8,12 @@ use Rattle.pdcch_app.specs.declared.status.Status.{Status}
 use Rattle.pdcch_app.specs.declared.status.Status.TheVariants as ends
 use Rattle.pdcch_app.specs.declared.first_cell.FirstCell.{FirstCell}
 use Rattle.pdcch_app.specs.declared.first_grant.FirstGrant.{FirstGrant}
-use Rattle.pdcch_app.specs.FirstForms.{settings_in, settings_of, grant_in, grant_of, table_of, first_table}
+use Rattle.slot_grid.specs.Grid.{GridValue}
+use Rattle.pdcch_app.specs.FirstGrid.{grid_in}
+use Rattle.pdcch_app.specs.FirstForms.{settings_in, settings_of, grant_in, grant_of, grid_of, table_of, first_table}
 use Rattle.pdcch_app.specs.Outcome.{Outcome, Refusal, Fetched, given_of, limit, is_done, no_memory, reading}
 use Rattle.pdcch_app.specs.Outcomes.{outcome, served}
-use Rattle.pdcch_app.specs.Promises.{EndsAsReadFault, EndsAsWriteFault, RefusesSilently, RefusesWords, WritesFirstForms}
+use Rattle.pdcch_app.specs.Promises.{EndsAsReadFault, EndsAsWriteFault, RefusesSilently, RefusesWords, WritesFirstForms, SearchesFirstForms}
 use Rattle.pdcch_app.specs.Ran.{Ran}
 use Rattle.pdcch_app.specs.Words.{legal, file}
 use Rattle.pdcch_app.proofs.Taking.{given_of-within}
@@ -67,6 +69,10 @@ grant-read : (name bytes : List ℕ) (grant : FirstGrant) → grant_in bytes ≡
 unfolding grant_of
 grant-read name bytes grant e = rw e refl
 
+grid-read : (name bytes : List ℕ) (grid : GridValue) → grid_in bytes ≡ Some grid → grid_of name bytes ≡ Ok grid
+unfolding grid_of
+grid-read name bytes grid e = rw e refl
+
 table-read : (size : ℕ) (name bytes : List ℕ) → bytes ≡ first_table size → table_of size name bytes ≡ Ok tt
 unfolding table_of
 table-read size name bytes e = let same : bytes_eq bytes (first_table size) ≡ true = (bytes_eq-Decides bytes (first_table size)).1 e in rw same refl
@@ -79,3 +85,12 @@ writes_first_forms words settings reliability input_order grants cell grant w hs
     ∙ went (table_of 1024 (file words 1)) (file words 1) _ reliability _ tt hr (table-read 1024 (file words 1) reliability r)
     ∙ went (table_of 164 (file words 2)) (file words 2) _ input_order _ tt hi (table-read 164 (file words 2) input_order i)
     ∙ went (grant_of (file words 3)) (file words 3) _ grants _ grant hg (grant-read (file words 3) grants grant g)
+
+pub searches_first_forms : SearchesFirstForms
+searches_first_forms words settings reliability input_order grid cell points w hs hr hi hg s r i g =
+    let gave : List Fetched = given_of settings ∷ given_of reliability ∷ given_of input_order ∷ given_of grid ∷ [] in
+    ap (λ c. served c words gave) w
+    ∙ went (settings_of (file words 0)) (file words 0) _ settings _ cell hs (settings-read (file words 0) settings cell s)
+    ∙ went (table_of 1024 (file words 1)) (file words 1) _ reliability _ tt hr (table-read 1024 (file words 1) reliability r)
+    ∙ went (table_of 164 (file words 2)) (file words 2) _ input_order _ tt hi (table-read 164 (file words 2) input_order i)
+    ∙ went (grid_of (file words 3)) (file words 3) _ grid _ points hg (grid-read (file words 3) grid points g)

@@ -1,5 +1,5 @@
 -- What a grid carries at the one watch of the first cell, and what it spells there.
-use Rattle.std.specs.Prelude.{◌≡◌, ◌↔◌, ℕ, ◌≤◌, Bool, List, Some, length}
+use Rattle.std.specs.Prelude.{◌≡◌, ◌↔◌, ◌≤◌, Bool, List, Some, length}
 use Rattle.crc_mask.specs.Parity.{masked}
 use Rattle.slot_grid.specs.Grid.{GridValue}
 use Rattle.slot_grid.specs.Image.{Agrees}

@@ -2,7 +2,7 @@
 //! functions with nothing to do.
 ghost use Rattle.pdcch_app.specs.FirstGrid.{ReadsEach, ReadsNoOther};
 ghost use Rattle.pdcch_app.specs.Hearing.{FindsWhatIsSpelled};
-ghost use Rattle.pdcch_app.specs.Promises.{EndsAsReadFault, EndsAsWriteFault, RefusesSilently, RefusesWords, WritesFirstForms};
+ghost use Rattle.pdcch_app.specs.Promises.{EndsAsReadFault, EndsAsWriteFault, RefusesSilently, RefusesWords, WritesFirstForms, SearchesFirstForms};
 
 /// A fault of the shelf never ends as another refusal, and never as a job that was done.
 pub fn ends_as_read_fault()
@@ -27,6 +27,11 @@ pub fn refuses_words()
 /// Four files of their first forms give the text of one grid.
 pub fn writes_first_forms()
     ensures { WritesFirstForms }
+{}
+
+/// Four files of their first forms, the last a grid, give the report of what it spells.
+pub fn searches_first_forms()
+    ensures { SearchesFirstForms }
 {}
 
 /// Each grid of frame 0, slot 0, numerology 1 and 51 blocks is read from its text.

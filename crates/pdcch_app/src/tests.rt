@@ -150,7 +150,7 @@ type Case = (
     &'static str,
 );
 
-const CASES: [Case; 24] = [
+const CASES: [Case; 21] = [
     (
         "write a b c",
         NEVER,
@@ -160,14 +160,6 @@ const CASES: [Case; 24] = [
         "error: usage\n",
     ),
     ("", NEVER, "", "", Status::Usage, "error: usage\n"),
-    (
-        "writes s r i g",
-        NEVER,
-        "",
-        "",
-        Status::Usage,
-        "error: usage\n",
-    ),
     (
         "write s  i g",
         NEVER,
@@ -259,14 +251,6 @@ const CASES: [Case; 24] = [
     (
         "write s r i g",
         NEVER,
-        "500",
-        "",
-        Status::NotBuilt,
-        "error: not built: s\n",
-    ),
-    (
-        "write s r i g",
-        NEVER,
         "17",
         "0",
         Status::NotBuilt,
@@ -309,14 +293,6 @@ const CASES: [Case; 24] = [
         NEVER,
         "\"tdra\":2",
         "\"tdra\":16",
-        Status::NotBuilt,
-        "error: not built: g\n",
-    ),
-    (
-        "write s r i g",
-        NEVER,
-        "\"ndi\":1",
-        "\"ndi\":2",
         Status::NotBuilt,
         "error: not built: g\n",
     ),

@@ -1,4 +1,4 @@
-use Rattle.std.proofs.Common.{◌≡◌, refl}
+use Rattle.std.proofs.Common.{refl}
 use Rattle.pdcch_app.proofs.Hearings.{held_on, held_from, code_on, code_back, nothing_held, nothing_decoded, one_stripped}
 use Rattle.pdcch_app.proofs.hearing.carried.Goals as goal
 

@@ -1,7 +1,4 @@
 use Rattle.std.proofs.Common.{refl, sym, subst}
-use Rattle.pdcch_app.specs.declared.fields.formats.Format.TheVariants.{F00, F10, Order}
-use Rattle.pdcch_app.specs.declared.fields.rows.FieldValue.{FieldValue}
-use Rattle.pdcch_app.specs.Entry.{Entry}
 use Rattle.pdcch_app.specs.Hearing.{IsReadAs}
 use Rattle.pdcch_app.proofs.Hearings.{unread}
 use Rattle.pdcch_app.proofs.hearing.read.Goals as goal
