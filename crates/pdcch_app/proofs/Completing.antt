@@ -1,5 +1,5 @@
 -- A run whose files are told and that met no fault ends as the told bytes want it.
-use Rattle.std.proofs.Common.{◌≡◌, ◌⊎◌, inl, inr, ⊎_elim, ℕ, List, [], ◌∷◌, Option, Some, String, map, refl, sym, ap, ◌∙◌, subst}
+use Rattle.std.proofs.Common.{◌≡◌, inl, inr, ⊎_elim, ℕ, List, [], ◌∷◌, Option, String, map, refl, ap, ◌∙◌, subst}
 use Rattle.std.specs.declared.alloc.Global.{Global}
 use Rattle.outside.specs.Causes.{Rose}
 use Rattle.pdcch_app.specs.declared.status.Status.{Status}

@@ -1,5 +1,5 @@
 -- The characters in the text of a first grid, and what is read there.
-use Rattle.std.proofs.Common.{◌≡◌, ◌≢◌, ℕ, ◌+◌, ◌*◌, ◌<◌, ◌≤◌, List, [], ◌∷◌, ◌++◌, map, length, get_or, take, min, codes, Bool, true, false, cond, Option, Some, None, refl, sym, ap, ◌∙◌, append_assoc, add_assoc, zero-add, arith, length-append, subst, inl, inr}
+use Rattle.std.proofs.Common.{◌≡◌, ℕ, ◌+◌, ◌*◌, ◌<◌, ◌≤◌, List, [], ◌∷◌, ◌++◌, map, length, get_or, take, codes, true, false, Some, None, refl, sym, ap, ◌∙◌, zero-add, arith, length-append, subst, inl, inr}
 use Rattle.std.specs.List.{range_with_len, flat_map}
 use Rattle.std.specs.Str.{bytes_eq}
 use Rattle.std.specs.Fmt.{digits}

@@ -1,5 +1,5 @@
 -- The promises of a run, from what it leaves.
-use Rattle.std.proofs.Common.{◌≡◌, ◌<◌, ◌≤◌, ◌⊎◌, inl, inr, ⊎_elim, ℕ, Bool, true, false, cond, leb, List, [], ◌∷◌, ◌++◌, Option, Some, None, Result, Ok, String, length, option_map, refl, sym, ap, ◌∙◌, subst, arith, rules, append-nil}
+use Rattle.std.proofs.Common.{◌≡◌, ◌<◌, ◌≤◌, ◌⊎◌, inl, inr, ⊎_elim, ℕ, true, false, List, [], ◌∷◌, Option, Some, None, Result, Ok, String, length, refl, sym, ap, ◌∙◌, subst, arith, append-nil}
 use Rattle.std.specs.declared.alloc.Global.{Global}
 use Rattle.std.specs.Str.{bytes_eq}
 use Rattle.std.proofs.lemmas.Slice.Eq.{bytes_eq-Decides}
@@ -14,7 +14,6 @@ use Rattle.pdcch_app.specs.FirstForms.{settings_in, settings_of, grant_in, grant
 use Rattle.pdcch_app.specs.Outcome.{Outcome, Refusal, Fetched, given_of, limit, is_done, no_memory, reading}
 use Rattle.pdcch_app.specs.Outcomes.{outcome, served}
 use Rattle.pdcch_app.specs.Promises.{EndsAsReadFault, EndsAsWriteFault, RefusesSilently, RefusesWords, WritesFirstForms, SearchesFirstForms}
-use Rattle.pdcch_app.specs.Ran.{Ran}
 use Rattle.pdcch_app.specs.Words.{legal, file}
 use Rattle.pdcch_app.proofs.Taking.{given_of-within}
 

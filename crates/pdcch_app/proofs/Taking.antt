@@ -1,9 +1,9 @@
 -- What one fetch gives.
-use Rattle.std.proofs.Common.{◌≡◌, ◌<◌, ◌≤◌, ◌⊎◌, inl, inr, ℕ, Bool, true, false, cond, leb, List, [], Option, Some, None, Result, Ok, Err, length, refl, sym, ap, ◌∙◌, subst, arith, rules}
-use Rattle.outside.specs.Causes.{Rose, Fetches}
+use Rattle.std.proofs.Common.{◌≡◌, ◌<◌, ◌≤◌, inl, inr, ℕ, Bool, true, false, cond, leb, List, [], Option, Some, None, Ok, Err, length, refl, sym, ap, ◌∙◌, subst, arith, rules}
+use Rattle.outside.specs.Causes.{Fetches}
 use Rattle.outside.specs.declared.faults.FetchFault.TheVariants as fault
-use Rattle.pdcch_app.specs.declared.stop.Stop.TheVariants.{OutOfMemory, Ended}
-use Rattle.pdcch_app.specs.Outcome.{Refusal, Fetched, Bytes, TooLong, Fault, given_of, limit, unread, read_as}
+use Rattle.pdcch_app.specs.declared.stop.Stop.TheVariants.{OutOfMemory}
+use Rattle.pdcch_app.specs.Outcome.{Bytes, TooLong, Fault, given_of, limit, unread}
 use Rattle.pdcch_app.specs.Outcomes.{raw}
 use Rattle.pdcch_app.specs.Steps.{Step, IsGiven}
 

@@ -1,5 +1,5 @@
 -- The grid of a grant, stage by stage.
-use Rattle.std.proofs.Common.{◌≡◌, ℕ, List, Bool, refl, ap, ◌∙◌}
+use Rattle.std.proofs.Common.{◌≡◌, ℕ, List, Bool, ap, ◌∙◌}
 use Rattle.crc_mask.specs.Parity.{masked}
 use Rattle.slot_grid.specs.Grid.{GridValue}
 use Rattle.slot_grid.specs.Image.{overwritten, blank_grid}
@@ -14,7 +14,7 @@ use Rattle.pdcch_app.specs.FirstResources.{eight_groups}
 use Rattle.pdcch_app.specs.Payload.{payload_10}
 use Rattle.pdcch_app.specs.PointsOnGrid.{image_of}
 use Rattle.pdcch_app.specs.Scrambling.{scramble_start, scrambled}
-use Rattle.pdcch_app.specs.Written.{grid_of_grant, first_watch}
+use Rattle.pdcch_app.specs.Written.{grid_of_grant}
 
 -- a grid overwritten with scrambled bits on REGs
 abbrev over : ℕ → List Reg → List Bool → GridValue → GridValue

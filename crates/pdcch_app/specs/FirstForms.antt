@@ -1,5 +1,5 @@
 -- The one form that each file has for now: its texts, with the numbers that stand between them.
-use Rattle.std.specs.Prelude.{ℕ, Bool, true, false, cond, not, ◌&&◌, ◌||◌, ◌+◌, ◌-◌, ◌*◌, ◌/◌, leb, min, eqb, List, [], ◌∷◌, ◌++◌, Option, Some, None, Result, Ok, Err, length, drop, map, codes, nat_eq, option_and_then}
+use Rattle.std.specs.Prelude.{ℕ, Bool, false, cond, not, ◌&&◌, ◌+◌, ◌-◌, ◌*◌, leb, min, eqb, List, [], ◌∷◌, ◌++◌, Option, Some, None, Result, Ok, Err, length, drop, map, codes, nat_eq, option_and_then}
 use Rattle.std.specs.List.{starts_with, join_with_byte, range_with_len}
 use Rattle.std.specs.Fmt.{decimal}
 use Rattle.std.specs.Str.{bytes_eq}

@@ -1,5 +1,5 @@
 -- The outcome of each command, step by step in the order of the work.
-use Rattle.std.specs.Prelude.{ℕ, List, [], ◌∷◌, Option, Some, None, Result, Ok, Err, String, true, codes, option_map}
+use Rattle.std.specs.Prelude.{ℕ, List, [], Option, Some, None, Result, Ok, String, true, codes, option_map}
 use Rattle.std.specs.declared.alloc.Global.{Global}
 use Rattle.slot_grid.specs.Grid.{GridValue}
 use Rattle.pdcch_app.specs.declared.status.Status.TheVariants as status

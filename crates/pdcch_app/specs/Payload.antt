@@ -1,5 +1,5 @@
 -- The payload of a downlink assignment of format 1_0 (3GPP TS 38.212, 7.3.1.2.1) where its frequency assignment has 11 bits.
-use Rattle.std.specs.Prelude.{ℕ, ◌≤◌, Bool, List, ◌++◌}
+use Rattle.std.specs.Prelude.{◌≤◌, Bool, List, ◌++◌}
 use Rattle.bits_core.specs.Bits.{bits_of}
 use Rattle.pdcch_app.specs.declared.first_grant.FirstGrant.{FirstGrant}
 

@@ -1,5 +1,5 @@
 -- What every run promises, as sentences over what a run leaves.
-use Rattle.std.specs.Prelude.{◌≡◌, ◌<◌, ◌≤◌, ◌⊎◌, ℕ, Bool, false, List, [], ◌∷◌, Option, Some, None, String, length, codes, option_map}
+use Rattle.std.specs.Prelude.{◌≡◌, ◌<◌, ◌≤◌, ◌⊎◌, ℕ, false, List, [], ◌∷◌, Option, Some, None, String, length, codes, option_map}
 use Rattle.std.specs.declared.alloc.Global.{Global}
 use Rattle.pdcch_app.specs.declared.status.Status.{Status}
 use Rattle.pdcch_app.specs.declared.status.Status.TheVariants as ends
@@ -12,7 +12,7 @@ use Rattle.pdcch_app.specs.Entry.{entry_of}
 use Rattle.pdcch_app.specs.FirstForms.{settings_in, grant_in, first_table}
 use Rattle.pdcch_app.specs.FirstGrid.{grid_in}
 use Rattle.pdcch_app.specs.GridText.{grid_text}
-use Rattle.pdcch_app.specs.Outcome.{Outcome, given_of, limit, is_done}
+use Rattle.pdcch_app.specs.Outcome.{given_of, limit, is_done}
 use Rattle.pdcch_app.specs.Outcomes.{outcome}
 use Rattle.pdcch_app.specs.Ran.{Ran}
 use Rattle.pdcch_app.specs.Report.{report}

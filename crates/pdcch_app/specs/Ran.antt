@@ -1,11 +1,11 @@
 -- What a run leaves: its status, what the output and the error output took, and how the counts of faults moved.
-use Rattle.std.specs.Prelude.{◌≡◌, ◌≤◌, ◌⊎◌, ℕ, Bool, true, false, cond, List, [], ◌∷◌, Option, Some, None, String, map}
+use Rattle.std.specs.Prelude.{◌≡◌, ◌⊎◌, ℕ, false, List, [], ◌∷◌, Option, Some, String}
 use Rattle.std.specs.declared.alloc.Global.{Global}
 use Rattle.outside.specs.Causes.{Rose}
 use Rattle.outside.specs.Taken.{Takes, TakesPrefix}
 use Rattle.pdcch_app.specs.declared.status.Status.{Status}
 use Rattle.pdcch_app.specs.declared.status.Status.TheVariants as ends
-use Rattle.pdcch_app.specs.Outcome.{Outcome, Fetched, is_done, no_memory, given_of}
+use Rattle.pdcch_app.specs.Outcome.{Outcome, Fetched, is_done, no_memory}
 use Rattle.pdcch_app.specs.Words.{named}
 use Rattle.pdcch_app.specs.Outcomes.{outcome}
 use Rattle.pdcch_app.specs.Steps.{AreGiven}

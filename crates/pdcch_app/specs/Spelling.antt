@@ -1,11 +1,11 @@
 -- What a grid spells at a watch: a format with field values whose masked payload has the grid's points as its image.
-use Rattle.std.specs.Prelude.{◌≡◌, ℕ, ◌*◌, Bool, true, false, List, [], ◌∷◌, Option, Some, None, map, find}
+use Rattle.std.specs.Prelude.{ℕ, ◌*◌, Bool, true, false, List, [], ◌∷◌, Option, Some, None, map, find}
 use Rattle.std.specs.List.{range_with_len, flat_map, list_all}
 use Rattle.crc_mask.specs.Parity.{masked}
 use Rattle.slot_grid.specs.declared.places.Point.{Point}
 use Rattle.slot_grid.specs.declared.places.Point.TheVariants.{Empty, P00, P01, P10, P11}
 use Rattle.slot_grid.specs.Grid.{GridValue, point_at}
-use Rattle.slot_grid.specs.Image.{Image, Agrees}
+use Rattle.slot_grid.specs.Image.{Image}
 use Rattle.pdcch_app.specs.declared.fields.formats.Format.{Format}
 use Rattle.pdcch_app.specs.declared.fields.formats.Format.TheVariants.{F00, F10, Order}
 use Rattle.pdcch_app.specs.BlockImage.{block_image}
