@@ -21,18 +21,21 @@ impl Model for Heard {
 impl Heard {
     ghost use Rattle.std.specs.Prelude.{◌≡◌};
 
+    /// A format with its shown fields.
     pub fn new(format: Format, fields: ArrayVec<FieldValue, 32>) -> Heard
         ensures { result ≡ record { format = format; fields = fields.items } }
     {
         Heard { format, fields }
     }
 
+    /// The format.
     pub fn format(&self) -> Format
         ensures { result ≡ self.now.format }
     {
         self.format
     }
 
+    /// The shown fields, in order.
     pub fn fields(&self) -> &[FieldValue]
         ensures { result.now ≡ self.now.fields }
     {
