@@ -1,0 +1,6 @@
+use Rattle.std.proofs.Common.{refl, arith}
+use Rattle.table_files.proofs.Parts.{part_empty}
+use Rattle.table_files.proofs.reader.read_numbers.Goals as goal
+
+pub loop-at-init : goal.loop-at-init
+loop-at-init c = record { few = omega arith; part = part_empty _; rest = refl }

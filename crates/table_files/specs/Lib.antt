@@ -1,0 +1,3 @@
+pub mod Permutation
+pub mod TableText
+pub mod SpelledTables
