@@ -1,0 +1,7 @@
+pub mod Conflicts
+pub mod Equality
+pub mod Faults
+pub mod Legal
+pub mod Name
+pub mod Table
+pub mod Words

@@ -1,0 +1,15 @@
+-- The name of a handset: 1 to 16 ASCII letters, digits or `_`.
+use Rattle.std.specs.Prelude.{ℕ, Bool, List, length, nat_le, nat_eq, ◌&&◌, ◌||◌}
+use Rattle.std.specs.List.{list_all}
+
+-- a number from low to high
+abbrev pub is_from_to : ℕ → ℕ → ℕ → Bool
+is_from_to low high n = nat_le low n && nat_le n high
+
+-- an ASCII letter, a digit or `_`
+abbrev pub is_name_byte : ℕ → Bool
+is_name_byte b = is_from_to 48 57 b || is_from_to 65 90 b || is_from_to 97 122 b || nat_eq b 95
+
+-- 1 to 16 such bytes
+abbrev pub is_name : List ℕ → Bool
+is_name bytes = is_from_to 1 16 (length bytes) && list_all is_name_byte bytes
