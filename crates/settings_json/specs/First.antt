@@ -1,0 +1,35 @@
+-- The first fault of settings, over the three passes: their shape, the ranges of their numbers, and what may not stand together.
+use Rattle.std.specs.Prelude.{◌≡◌, ◌⊎◌, ℕ, List, [], ◌∷◌, None, Some, Result, Ok, Err, Vec, IsUtf8}
+use Rattle.std.specs.declared.alloc.Global.{Global}
+use Rattle.rrc_settings.specs.Faults.{Finding, first_of}
+use Rattle.rrc_settings.specs.Legal.{first_fault}
+use Rattle.serde_json.specs.Data.{Data}
+use Rattle.serde_json.specs.Read.{read}
+use Rattle.settings_json.specs.Shapes.{cell}
+use Rattle.settings_json.specs.Values.{raw_value}
+use Rattle.settings_json.specs.declared.error.SettingsError.{SettingsError}
+use Rattle.settings_json.specs.declared.error.SettingsError.TheVariants.{Fault, NoMemory}
+
+-- the bytes are a JSON text with this reading
+abbrev pub IsJson : List ℕ → Data → Type 0
+IsJson bytes d = IsUtf8 bytes × (read bytes ≡ Some d)
+
+-- the bytes are no UTF-8, or have no reading as JSON
+abbrev pub IsNoJson : List ℕ → Type 0
+IsNoJson bytes = (IsUtf8 bytes → ⊥) ⊎ (read bytes ≡ None)
+
+-- the first fault of the shape, and then of the settings that the value spells
+unfoldable pub first_fault_of : Data → Finding
+first_fault_of d = first_of (cell [] d ∷ first_fault (raw_value d) ∷ [])
+
+-- the fault that is found, or the value where none is; memory may be wanting instead
+abbrev pub Gives : {T : Type 0} → Finding → T → Result T SettingsError → Type 0
+Gives finding value (Ok x) = (finding ≡ None) × (x ≡ value)
+Gives finding value (Err (Fault fault)) = finding ≡ Some fault
+Gives finding value (Err NoMemory) = Unit {0}
+
+-- the same for a vector of these elements
+abbrev pub GivesList : {T : Type 0} → Finding → List T → Result (Vec T Global) SettingsError → Type 0
+GivesList finding values (Ok xs) = (finding ≡ None) × (xs.items ≡ values)
+GivesList finding values (Err (Fault fault)) = finding ≡ Some fault
+GivesList finding values (Err NoMemory) = Unit {0}

@@ -1,0 +1,18 @@
+//! The settings of a cell from the bytes of a JSON text: the legal cell, or the first fault with its place and reason.
+#![tactic(auto)]
+
+mod cells;
+mod coresets;
+mod error;
+mod fields;
+mod handsets;
+mod leaves;
+mod lists;
+mod objects;
+mod sets;
+#[cfg(test)]
+mod tests;
+mod texts;
+
+pub use cells::read_settings;
+pub use error::SettingsError;

@@ -1,0 +1,46 @@
+//! Whether a value is an object with no key but its own.
+ghost use Rattle.std.specs.Prelude.{◌≡◌};
+ghost use Rattle.std.specs.List.{list_any};
+ghost use Rattle.rrc_settings.specs.Faults.{found_by};
+ghost use Rattle.rrc_settings.specs.Words.{word_of};
+ghost use Rattle.std.specs.Prelude.{bytes_eq};
+ghost use Rattle.serde_json.specs.View.{view, members_view};
+ghost use Rattle.settings_json.specs.Kinds.{has_only, is_object_of};
+
+use crate::leaves::fault_at;
+use rrc_settings::{Key, Place, Reason, SettingsFault};
+use serde_json::{Map, Value};
+
+/// Whether one of the keys has this word.
+fn is_among(keys: &[Key], word: &[u8]) -> bool
+    ensures { result ≡ list_any (λ key. bytes_eq (word_of key) word.now) keys.now }
+{
+    keys.iter().any(|key| key.word() == word)
+}
+
+/// Whether every member's key is one of these.
+fn has_only(keys: &[Key], members: &Map<String, Value>) -> bool
+    ensures { result ≡ has_only keys.now (members_view members.now.entries) }
+{
+    for (key, _value) in members.iter() {
+        if !is_among(keys, key.as_bytes()) {
+            return false;
+        }
+    }
+    true
+}
+
+/// Refuses a value that is no object, or has a key beside these.
+#[tactic(auto, unfolding(rrc_settings::specs::Faults::unless, crate::specs::Kinds::is_object_of))]
+pub(crate) fn is_object_of(at: &Place, keys: &[Key], value: &Value) -> Result<(), SettingsFault>
+    ensures { found_by result ≡ is_object_of keys.now at.now.steps.items (view value.now) }
+{
+    let Some(members) = value.as_object() else {
+        return Err(fault_at(at, Reason::WrongKind));
+    };
+    if has_only(keys, members) {
+        Ok(())
+    } else {
+        Err(fault_at(at, Reason::Unknown))
+    }
+}
