@@ -1,4 +1,6 @@
+pub mod CodeLengths
 pub mod Numbers
+pub mod Ones
 pub mod Rows
 pub mod Sums
 mod PackedBits

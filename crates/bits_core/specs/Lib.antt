@@ -1,2 +1,4 @@
 pub mod Bits
+pub mod CodeLengths
+pub mod Ones
 pub mod Row

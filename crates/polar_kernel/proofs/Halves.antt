@@ -1,13 +1,12 @@
 -- A word by the halves of its bits, and that the word of the word is the bits.
 use Rattle.std.proofs.Common.{ℕ, ◌≡◌, ◌+◌, ◌-◌, ◌*◌, ◌^◌, ◌<◌, zero, suc, Bool, false, ◌&&◌, inl, inr, refl, ap, subst, ◌∙◌, arith}
-use Rattle.std.specs.Prelude.{bit_and, ◌==◌}
 use Rattle.std.proofs.Math.Nat.{pow-suc}
-use Rattle.std.proofs.lemmas.Bool.{cases_lt, eq-eqb}
-use Rattle.std.proofs.lemmas.Bool.Decides.{eqb_tells}
-use Rattle.std.proofs.lemmas.Nat.{and_block, and_le_r, same_from_place}
+use Rattle.std.proofs.lemmas.Bool.{cases_lt}
 use Rattle.bits_core.specs.Bits.{plus, sum_below}
 use Rattle.bits_core.proofs.Sums.{and-plus, plus_cancel, sum_below-add, sum_below-plus, sum_below-same, sum_below-zero}
-use Rattle.polar_kernel.specs.MatrixWord.{contains_ones, word_at}
+use Rattle.bits_core.specs.Ones.{contains_ones}
+use Rattle.bits_core.proofs.Ones.{contains_block}
+use Rattle.polar_kernel.specs.MatrixWord.{word_at}
 use Rattle.polar_kernel.proofs.Words.{word_at-same}
 
 pub doubled : (k : ℕ) → 2 ^ suc k ≡ 2 ^ k + 2 ^ k
@@ -24,28 +23,6 @@ by_halves k P low high j l =
           let e : 2 ^ k + (j - 2 ^ k) ≡ j = omega arith in
           subst P e (high (j - 2 ^ k) (omega arith))
     ]
-
-differs : (a b : ℕ) → (a ≡ b → ⊥) → (a == b) ≡ false
-differs a b h = elim (eqb_tells a b) [ inl e ↦ absurd (h e.1) | inr e ↦ e.0 ]
-
--- two places are one where row and column are
-place_eq : (w a b x s : ℕ) → x < w → s < w → (a * w + x == b * w + s) ≡ ((a == b) && (x == s))
-place_eq w a b x s l m =
-    elim (eqb_tells a b) [
-      | inl e ↦ elim (eqb_tells x s) [
-        | inl f ↦ (rw (e.0, f.0) (eq-eqb (a * w + x) (b * w + s) (ap (λ (i : ℕ). i * w + x) e.1 ∙ ap (λ (i : ℕ). b * w + i) f.1)))
-        | inr f ↦ (rw (e.0, f.0) (differs (a * w + x) (b * w + s) (λ h. f.1 (same_from_place a x b s w l m h).1)))
-      ]
-      | inr e ↦ (rw e.0 (differs (a * w + x) (b * w + s) (λ h. e.1 (same_from_place a x b s w l m h).0)))
-    ]
-
-pub contains_block : (k a b r s : ℕ) → r < 2 ^ k → s < 2 ^ k →
-    contains_ones (a * 2 ^ k + r) (b * 2 ^ k + s) ≡ (contains_ones a b && contains_ones r s)
-unfolding contains_ones
-contains_block k a b r s l m =
-    let le = and_le_r r s in
-    ap (λ (x : ℕ). x == b * 2 ^ k + s) (and_block k a b r s l m)
-    ∙ place_eq (2 ^ k) (bit_and a b) b (bit_and r s) s (omega arith) m
 
 one_block : (n r : ℕ) → n + r ≡ 1 * n + r
 one_block n r = omega arith

@@ -6,7 +6,8 @@ use Rattle.std.proofs.lemmas.Bool.{eq-eqb}
 use Rattle.std.proofs.lemmas.Bool.Decides.{eqb_tells}
 use Rattle.std.proofs.lemmas.Nat.{and_block, and_le_r, and_mask, or_disjoint, or_lt}
 use Rattle.bits_core.specs.Bits.{plus, sum_below}
-use Rattle.polar_kernel.specs.MatrixWord.{contains_ones, word_at}
+use Rattle.bits_core.specs.Ones.{contains_ones}
+use Rattle.polar_kernel.specs.MatrixWord.{word_at}
 use Rattle.polar_kernel.specs.Stages.{HasPartners, staged}
 use Rattle.polar_kernel.proofs.Halves.{by_halves, doubled, word_at-high, word_at-low}
 use Rattle.polar_kernel.proofs.Words.{word_at-same}

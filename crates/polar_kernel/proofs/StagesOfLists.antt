@@ -5,9 +5,10 @@ use Rattle.std.proofs.Math.Nat.{pow-suc, pow-le-pow_right, one-le-pow}
 use Rattle.std.proofs.lemmas.Bool.{cases_lt}
 use Rattle.std.proofs.lemmas.List.FromFn.{fill_by_all}
 use Rattle.bits_core.specs.Bits.{bit_of}
-use Rattle.polar_kernel.specs.MatrixWord.{is_code_length, matrix_word, word_at}
+use Rattle.bits_core.specs.CodeLengths.{is_code_length}
+use Rattle.bits_core.proofs.CodeLengths.{IsPower, power_of}
+use Rattle.polar_kernel.specs.MatrixWord.{matrix_word, word_at}
 use Rattle.polar_kernel.specs.Stages.{HasPartners, staged}
-use Rattle.polar_kernel.proofs.CodeLengths.{IsPower, power_of}
 use Rattle.polar_kernel.proofs.Stages.{AfterStages, after_none, after_more, after_all, partners_at}
 
 -- w is what the stages below `span` leave of u

@@ -2,9 +2,9 @@
 use Rattle.std.proofs.Common.{ℕ, ◌≡◌, ◌^◌, ◌<◌, Bool, false, List, length, ap, subst, sym, ◌∙◌}
 use Rattle.std.proofs.lemmas.List.FromFn.{fill_by_all}
 use Rattle.bits_core.specs.Bits.{bit_of}
+use Rattle.bits_core.proofs.CodeLengths.{power_of}
 use Rattle.polar_kernel.specs.MatrixWord.{matrix_word, word_at}
 use Rattle.polar_kernel.specs.WordLaws.{WordIsOwnInverse}
-use Rattle.polar_kernel.proofs.CodeLengths.{power_of}
 use Rattle.polar_kernel.proofs.Halves.{word_at-twice}
 use Rattle.polar_kernel.proofs.Words.{bit_of-matrix_word, length-matrix_word, word_at-same}
 

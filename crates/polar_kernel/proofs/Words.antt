@@ -3,7 +3,8 @@ use Rattle.std.proofs.Common.{ℕ, ◌≡◌, ◌<◌, Bool, false, ◌&&◌, Li
 use Rattle.std.proofs.lemmas.List.FromFn.{get_or-map-range_with_len, length-map-range_with_len}
 use Rattle.bits_core.specs.Bits.{bit_of}
 use Rattle.bits_core.proofs.Sums.{sum_below-same}
-use Rattle.polar_kernel.specs.MatrixWord.{contains_ones, word_at, matrix_word}
+use Rattle.bits_core.specs.Ones.{contains_ones}
+use Rattle.polar_kernel.specs.MatrixWord.{word_at, matrix_word}
 
 -- a word depends on the bits below its length alone
 pub word_at-same : (n : ℕ) (u v : ℕ → Bool) (j : ℕ) → ((i : ℕ) → i < n → u i ≡ v i) → word_at n u j ≡ word_at n v j

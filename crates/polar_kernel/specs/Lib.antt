@@ -1,3 +1,4 @@
 pub mod MatrixWord
 pub mod Stages
+pub mod Upward
 pub mod WordLaws

@@ -5,7 +5,8 @@
 pub mod laws;
 
 ghost use Rattle.bits_core.specs.Bits.{bit_of};
-ghost use Rattle.polar_kernel.specs.MatrixWord.{is_code_length, matrix_word};
+ghost use Rattle.bits_core.specs.CodeLengths.{is_code_length};
+ghost use Rattle.polar_kernel.specs.MatrixWord.{matrix_word};
 ghost use Rattle.polar_kernel.specs.Stages.{HasPartners, staged};
 ghost use Rattle.std.specs.Prelude.{ℕ, ◌≡◌, ◌<◌, IsTrue, length};
 

@@ -2,7 +2,7 @@
 use Rattle.std.proofs.Common.{ℕ, ◌≡◌, ◌^◌, ◌≤◌, lit≤, Bool, true, false, ◌||◌, ◌⊎◌, inl, inr, refl, subst, sym, ◌∙◌}
 use Rattle.std.proofs.lemmas.Bool.Decides.{eqb_tells}
 use Rattle.std.specs.Prelude.{IsTrue, ◌==◌}
-use Rattle.polar_kernel.specs.MatrixWord.{is_code_length}
+use Rattle.bits_core.specs.CodeLengths.{is_code_length}
 
 or_tells : (s t : Bool) → IsTrue (s || t) → IsTrue s ⊎ IsTrue t
 or_tells true t h = inl refl

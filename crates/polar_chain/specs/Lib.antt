@@ -1,0 +1,5 @@
+pub mod CodeOfBlock
+pub mod CodeShape
+pub mod Decoding
+pub mod KnownPlaces
+pub mod Reading

@@ -1,0 +1,7 @@
+pub mod Closed
+pub mod Counting
+pub mod Entries
+pub mod Frozen
+pub mod Information
+pub mod Members
+pub mod Taken

@@ -1,0 +1,14 @@
+//! Rate matching of the polar code (3GPP TS 38.212, 5.3.1 and 5.4.1): how long its word is, in which order the bits of the
+//! word are sent, which of them, and the way back.
+#![tactic(auto)]
+
+mod length;
+mod order;
+mod selection;
+
+pub use length::length_for;
+pub use order::{order_of, place_of};
+pub use selection::{Differs, select, unselect};
+
+#[cfg(test)]
+mod tests;
