@@ -1,11 +1,11 @@
 //! The whole of the settings.
 ghost use Rattle.std.specs.Prelude.{◌≡◌, ◌≤◌, ◌⊎◌, [], Err, IfErr, IfOk, length, map};
-ghost use Rattle.rrc_settings.specs.Faults.{each, fault_at};
+ghost use Rattle.rrc_settings.specs.Faults.{each, fault_at, Steps};
 ghost use Rattle.rrc_settings.specs.declared.words.Key.TheVariants as keys;
 ghost use Rattle.rrc_settings.specs.declared.place.Reason.TheVariants as reasons;
 ghost use Rattle.serde_json.specs.Data.{Data};
 ghost use Rattle.serde_json.specs.View.{view};
-ghost use Rattle.settings_json.specs.First.{first_fault_of, Gives, GivesList, IsJson, IsNoJson};
+ghost use Rattle.settings_json.specs.First.{first_fault_in, first_fault_of, Gives, GivesList, IsJson, IsNoJson, raw_in};
 ghost use Rattle.settings_json.specs.Kinds.{elements_in, entry, judge_list, must};
 ghost use Rattle.settings_json.specs.Shapes.{cell, handset};
 ghost use Rattle.settings_json.specs.Values.{handset_value, raw_value};
@@ -104,9 +104,12 @@ fn value_of(alloc: Global, bytes: &[u8]) -> Result<Value, SettingsError>
 /// Reads the settings of a cell from a JSON text: the legal cell that they spell, or the first fault of their shape, of
 /// the ranges of their numbers, and of what may not stand together, in this order. `NotJson` comes exactly where the
 /// bytes are no UTF-8 or have no reading as JSON, which nests at most 127 deep.
+#[tactic(auto, using(crate::proofs::Readings::first_fault_of_json, crate::proofs::Readings::raw_of_json, crate::proofs::Readings::first_fault_of_no_json))]
 pub fn read_settings(alloc: Global, bytes: &[u8]) -> Result<Cell, SettingsError>
     ensures no_json { IsNoJson bytes.now → (result ≡ Err NoMemory) ⊎ (result ≡ Err (Fault (fault_at [] reasons.NotJson))) }
     ensures json { (d : Data) → IsJson bytes.now d → Gives (first_fault_of d) (raw_value d) result }
+    ensures first { Gives (first_fault_in bytes.now) (raw_in bytes.now) result }
+    ensures not_json { (at : Steps) → result ≡ Err (Fault (fault_at at reasons.NotJson)) → IsNoJson bytes.now }
 {
     let value = value_of(alloc, bytes)?;
     cell_of(alloc, &value)

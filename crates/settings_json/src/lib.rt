@@ -6,6 +6,7 @@ mod coresets;
 mod error;
 mod fields;
 mod handsets;
+pub mod laws;
 mod leaves;
 mod lists;
 mod objects;

@@ -1,4 +1,12 @@
 //! Settings that are read, and settings that are refused at a place for a reason.
+mod absent;
+mod conflicts;
+mod edits;
+mod json;
+mod kinds;
+mod limits;
+mod passes;
+
 use crate::{SettingsError, read_settings};
 use arrayvec::ArrayVec;
 use rrc_settings::{
@@ -92,9 +100,9 @@ fn words_of(alloc: Global, fault: &SettingsFault) -> Result<String, AllocError> 
     Ok(words)
 }
 
-/// The words of the fault that a text has, and nothing where it has none.
-fn refusal_of(alloc: Global, text: &str) -> Result<String, Fail> {
-    match read_settings(alloc, text.as_bytes()) {
+/// The words of the fault that bytes have, and nothing where they have none.
+fn refusal_of(alloc: Global, bytes: &[u8]) -> Result<String, Fail> {
+    match read_settings(alloc, bytes) {
         Ok(_cell) => Ok(String::new(alloc)),
         Err(error) => match error {
             SettingsError::Fault(fault) => Ok(words_of(alloc, &fault)?),
@@ -142,7 +150,7 @@ fn names_the_first_fault(rt: HostRuntime) -> Result<(), Fail> {
     ];
     for (old, new, fault) in rows {
         let text = SETTINGS.replace(rt.alloc(), old, new)?;
-        let found = refusal_of(rt.alloc(), text.as_str())?;
+        let found = refusal_of(rt.alloc(), text.as_str().as_bytes())?;
         assert_eq!(rt; found.as_str(), fault);
     }
     Ok(())
