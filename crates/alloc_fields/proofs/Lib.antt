@@ -1,0 +1,3 @@
+pub mod LeastBits
+pub mod GroupCounts
+pub mod SpanValues

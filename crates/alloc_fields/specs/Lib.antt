@@ -1,0 +1,4 @@
+pub mod Widths
+pub mod Groups
+pub mod Indication
+pub mod Spans

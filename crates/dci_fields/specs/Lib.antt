@@ -1,0 +1,15 @@
+pub mod Formats
+pub mod Words
+pub mod SameNames
+pub mod FieldLists
+pub mod HandsetsOfCell
+pub mod LegalSettings
+pub mod Assignments
+pub mod Antennas
+pub mod FormatRows
+pub mod FittedRows
+pub mod Payloads
+pub mod ReadValues
+pub mod GivenValues
+pub mod Alignment
+pub mod Equality

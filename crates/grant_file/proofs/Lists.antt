@@ -1,0 +1,54 @@
+-- What follows of the fields of a grant from the object that gives them.
+use Rattle.std.proofs.Common.{◌≡◌, suc, List, [], ◌∷◌, ◌++◌, All, length, map, String, Global, Less, string_bytes, nat_cmp, slice_index_or, refl, ap, sym, subst, arith}
+use Rattle.std.proofs.lemmas.List.Elements.{All-append}
+use Rattle.std.specs.Cmp.Lexicographic.{slice_cmp}
+use Rattle.std.specs.List.{AllByRecursion}
+use Rattle.std.specs.List.Sorted.{IsStrictlySortedBy}
+use Rattle.std.specs.Map.{keys_of}
+use Rattle.std.specs.String.{string_cmp}
+use Rattle.dci_fields.specs.declared.fault.Given.{Given}
+use Rattle.serde_json.proofs.Views.{Entry}
+use Rattle.serde_json.specs.Data.{Members, no_members, member}
+use Rattle.serde_json.specs.View.{members_view}
+use Rattle.grant_file.specs.FieldNames.{field_named}
+use Rattle.grant_file.specs.Fields.{given_in, words_in}
+use Rattle.grant_file.specs.Lists.{IsAscending, IsReadFields}
+
+-- a word below all keys is below all words
+below_words : (word : String Global) (es : List Entry) → AllByRecursion (λ y. string_cmp word y ≡ Less) (keys_of es)
+    → AllByRecursion (λ y. slice_cmp nat_cmp (string_bytes word) y ≡ Less) (words_in (members_view es))
+below_words word [] h = tt
+below_words word (e ∷ es) h = (h.0, below_words word es h.1)
+
+-- the words of an object ascend as its keys do
+pub ascending_words : (es : List Entry) → IsStrictlySortedBy string_cmp (keys_of es) → IsAscending (words_in (members_view es))
+unfolding IsStrictlySortedBy
+ascending_words [] h = tt
+ascending_words (e ∷ es) h = (below_words e.0 es h.0, ascending_words es h.1)
+
+-- there are as many values as words
+in_place : (ms : Members) → length (given_in ms) ≡ length (words_in ms)
+in_place no_members = refl
+in_place (member word d ms) = ap suc (in_place ms)
+
+-- each value has the name of its word
+named : (ms : Members) → map (λ (g : Given). g.name) (given_in ms) ≡ map field_named (words_in ms)
+named no_members = refl
+named (member word d ms) = ap (λ names. field_named word ∷ names) (named ms)
+
+-- the fields of an object whose words ascend
+pub read_fields : (ms : Members) → IsAscending (words_in ms) → IsReadFields (given_in ms) (words_in ms)
+read_fields ms h = record { ascending = h; in_place = in_place ms; named = named ms }
+
+-- no fields
+pub read_no_fields : IsReadFields [] []
+unfolding IsStrictlySortedBy
+read_no_fields = record { ascending = tt; in_place = refl; named = refl }
+
+-- what holds of the one element
+all_one : {T : Type 0} (P : T → Type 0) (x : T) → P x → All P (x ∷ [])
+all_one P x p k d h = let first : k ≡ 0 = omega arith in subst (λ j. P (slice_index_or (x ∷ []) j d)) (sym first) p
+
+-- what holds of each element and of one more
+pub all_and_one : {T : Type 0} (P : T → Type 0) (xs : List T) (x : T) → All P xs → P x → All P (xs ++ x ∷ [])
+all_and_one P xs x h p = All-append P xs (x ∷ []) h (all_one P x p)

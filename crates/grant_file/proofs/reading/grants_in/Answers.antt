@@ -1,0 +1,37 @@
+use Rattle.std.proofs.Common.{arith}
+use Rattle.std.proofs.lemmas.Grind.{common_steps}
+use Rattle.settings_json.proofs.Elements.{take_view_next}
+use Rattle.grant_file.specs.Lists.{IsReadGrant}
+use Rattle.grant_file.specs.Shapes.{judge_grant}
+use Rattle.grant_file.specs.Values.{grant_value}
+use Rattle.grant_file.proofs.Elements.{first_from_view_next}
+use Rattle.grant_file.proofs.Lists.{all_and_one}
+use Rattle.grant_file.proofs.reading.grants_in.Goals as goal
+
+pub returns-in_err-grant_of : goal.returns-in_err-grant_of
+returns-in_err-grant_of c =
+    let e = c.in_err-grant_of.ensures.read in
+    let n = first_from_view_next judge_grant c.args.values.now c.loop-index.index c.index-values-index.result c.loop-index-test.true in
+    let i = c.index-values-index.is in
+    grind (arith, common_steps)
+
+pub loop-index-preserved : goal.loop-index-preserved
+loop-index-preserved c =
+    let e = c.in_ok-grant_of.ensures.read in
+    let i = c.index-values-index.is in
+    let r = c.loop-index.invariant.rest in
+    let d = c.loop-index.invariant.done in
+    let p = c.in_ok-push.ensures.items in
+    let k = c.loop-index.invariant.count in
+    record {
+      rest =
+          let n = first_from_view_next judge_grant c.args.values.now c.loop-index.index c.index-values-index.result c.loop-index-test.true in
+          grind (arith, common_steps);
+      count = grind (arith, common_steps, c.in_ok-push.ensures.items);
+      kept =
+          rw c.in_ok-push.ensures.items
+          (all_and_one IsReadGrant c.loop-index.grants.items c.in_ok-grant_of.field-0 c.loop-index.invariant.kept c.in_ok-grant_of.ensures.kept);
+      done =
+          let t = take_view_next grant_value c.args.values.now c.loop-index.index c.index-values-index.result c.loop-index-test.true in
+          grind (arith, common_steps, c.in_ok-push.ensures.items);
+    }

@@ -1,0 +1,12 @@
+pub mod Equality
+pub mod Faults
+pub mod FieldNames
+pub mod FieldWord
+pub mod Fields
+pub mod First
+pub mod Keys
+pub mod Kinds
+pub mod Lists
+pub mod Reads
+pub mod Shapes
+pub mod Values

@@ -1,0 +1,39 @@
+-- The grants that a JSON value spells where it has no fault.
+use Rattle.std.specs.Prelude.{ℕ, List, map, cond, codes, bytes_eq}
+use Rattle.dci_fields.specs.declared.formats.Format.{Format}
+use Rattle.dci_fields.specs.declared.formats.Format.TheVariants as formats
+use Rattle.serde_json.specs.Data.{Data}
+use Rattle.grant_file.specs.declared.grants.Grant.{Grant}
+use Rattle.grant_file.specs.declared.grants.GrantList.{GrantList}
+use Rattle.grant_file.specs.declared.place.GrantKey.TheVariants as keys
+use Rattle.grant_file.specs.Fields.{given_in, words_in}
+use Rattle.grant_file.specs.Kinds.{number_in, optional_number_in, text_in, elements_in, members_in}
+
+-- the format that a word names
+abbrev pub format_of : List ℕ → Format
+format_of word =
+    cond (bytes_eq word (codes "0_0")) formats.F00
+    (cond (bytes_eq word (codes "1_0")) formats.F10
+    (cond (bytes_eq word (codes "order")) formats.Order
+    (cond (bytes_eq word (codes "0_1")) formats.F01 formats.F11)))
+
+-- a grant
+unfoldable pub grant_value : Data → Grant
+grant_value d = record {
+  handset = text_in keys.Handset d;
+  set = number_in keys.Set d;
+  level = number_in keys.Level d;
+  candidate = optional_number_in keys.Candidate d;
+  symbol = optional_number_in keys.Symbol d;
+  format = format_of (text_in keys.Format d);
+  given = given_in (members_in keys.Fields d);
+  words = words_in (members_in keys.Fields d);
+}
+
+-- the grants of a slot
+unfoldable pub list_value : Data → GrantList
+list_value d = record {
+  frame = number_in keys.Frame d;
+  slot = number_in keys.Slot d;
+  grants = map grant_value (elements_in keys.Grants d);
+}

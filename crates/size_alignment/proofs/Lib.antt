@@ -1,0 +1,2 @@
+pub mod FourSizes
+pub mod SizesDiffer
