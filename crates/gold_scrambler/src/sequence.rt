@@ -1,7 +1,8 @@
 //! The sequence, bit by bit.
 ghost use Rattle.std.specs.Prelude.{◌≡◌, ◌+◌, ◌^◌, ◌<◌, ◌≤◌};
-ghost use Rattle.gold_scrambler.specs.Gold.{next1, next2, gold};
+ghost use Rattle.gold_scrambler.specs.Gold.{next1, next2, gold, gold_bits};
 
+use bits_core::Coded;
 use std::marker::Model;
 
 /// How many steps the registers take before the first bit of the sequence.
@@ -75,6 +76,20 @@ impl Gold {
     {
         for _passed in 0..count {
             self.next_bit();
+        }
+    }
+
+    /// Replaces `out` by the next `count` bits.
+    pub fn fill(&mut self, out: &mut Coded, count: usize)
+        requires room { count ≤ 1728 }
+        requires within { self.old.at + count ≤ 2 ^ 30 }
+        ensures bits { out.new ≡ gold_bits self.old.c_init self.old.at count }
+        ensures c_init { self.new.c_init ≡ self.old.c_init }
+        ensures at { self.new.at ≡ self.old.at + count }
+    {
+        *out = Coded::new();
+        for _taken in 0..count {
+            out.push(self.next_bit());
         }
     }
 }

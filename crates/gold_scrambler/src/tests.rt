@@ -1,6 +1,7 @@
 ghost use Rattle.std.specs.Prelude.{◌≡◌, ◌+◌, ◌^◌, ◌≤◌, length};
 
 use crate::Gold;
+use bits_core::Coded;
 
 /// A start value, c(0) to c(63), and c(1000) to c(1031).
 const SEQUENCES: [(u32, &[u8; 64], &[u8; 32]); 6] = [
@@ -63,5 +64,32 @@ fn known_sequences(rt: HostRuntime) {
             continues_with(&mut gold, later),
             "the later bits of {c_init}"
         );
+    }
+}
+
+/// Whether the bits are those of a text of zeros and ones.
+fn are_spelled(bits: &Coded, text: &[u8]) -> bool {
+    if bits.len() != text.len() {
+        return false;
+    }
+    for (at, digit) in text.iter().enumerate() {
+        if bits.get(at) != (*digit == b'1') {
+            return false;
+        }
+    }
+    true
+}
+
+#[test]
+fn known_sequences_in_rows(rt: HostRuntime) {
+    let mut row = Coded::new();
+    for (c_init, first, later) in SEQUENCES {
+        assert!(rt; c_init < 1 << 31);
+        let mut gold = Gold::new(c_init);
+        gold.fill(&mut row, 64);
+        assert!(rt; are_spelled(&row, first), "the first bits of {c_init}");
+        gold.skip(1000 - 64);
+        gold.fill(&mut row, 32);
+        assert!(rt; are_spelled(&row, later), "the later bits of {c_init}");
     }
 }

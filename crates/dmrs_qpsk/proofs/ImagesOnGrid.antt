@@ -1,0 +1,64 @@
+-- Which places the image of bits on REGs has.
+use Rattle.std.proofs.Common.{◌≡◌, ℕ, ◌+◌, ◌*◌, ◌/◌, ◌%◌, ◌<◌, Bool, List, Some, None, option_map, length, inl, inr, refl, sym, ◌∙◌, ap, arith}
+use Rattle.std.proofs.lemmas.Bool.{cases_lt}
+use Rattle.slot_grid.specs.declared.places.Point.{Point}
+use Rattle.slot_grid.specs.Grid.{GridValue}
+use Rattle.slot_grid.specs.Image.{IsWithin}
+use Rattle.coreset_map.specs.declared.places.Reg.{Reg}
+use Rattle.coreset_map.specs.RegOrder.{reg_at, AreRegs}
+use Rattle.dmrs_qpsk.specs.PointsOnGrid.{reg_point, rank_in, image_of, AreInside}
+use Rattle.dmrs_qpsk.proofs.RegPuts.{reg_apart}
+use Rattle.dmrs_qpsk.proofs.Ranks.{rank_cases}
+
+same_reg : (regs : List Reg) (i j : ℕ) → AreRegs regs → i < length regs → j < length regs
+    → (reg_at regs i).symbol ≡ (reg_at regs j).symbol → (reg_at regs i).block ≡ (reg_at regs j).block → i ≡ j
+same_reg regs i j apart h l e f =
+    elim (cases_lt i j) [
+      | inl m ↦ absurd (reg_apart regs i j apart m l e f)
+      | inr m ↦ elim (cases_lt j i) [
+        | inl n ↦ absurd (reg_apart regs j i apart n h (sym e) (sym f))
+        | inr n ↦ omega arith
+      ]
+    ]
+
+none_some : (p : Point) → None ≡ Some p → ⊥
+none_some p e = cc
+
+-- REG j is the only one of the list in its symbol and block
+pub one_at : (first : ℕ) (regs : List Reg) (j : ℕ) → AreRegs regs → j < length regs
+    → rank_in first regs (first + (reg_at regs j).symbol) (reg_at regs j).block ≡ Some j
+one_at first regs j apart h =
+    elim (rank_cases first regs (first + (reg_at regs j).symbol) (reg_at regs j).block) [
+      | inl n ↦ absurd (n.apart j h refl refl)
+      | inr (i, r) ↦
+          let same : i ≡ j = same_reg regs i j apart r.below h (omega (arith, r.symbol_is)) r.block_is in
+          r.some ∙ ap (λ k. Some k) same
+    ]
+
+-- the image has at subcarrier k of REG j the point of that place
+pub image_at : (slot first id : ℕ) (regs : List Reg) (bits : List Bool) (j k : ℕ) → AreRegs regs → j < length regs → k < 12
+    → image_of slot first id regs bits (first + (reg_at regs j).symbol) (12 * (reg_at regs j).block + k)
+    ≡ Some (reg_point slot (first + (reg_at regs j).symbol) id (reg_at regs j).block bits j k)
+unfolding image_of
+image_at slot first id regs bits j k apart h l =
+    let reg = reg_at regs j in
+    let s = first + reg.symbol in
+    let c = 12 * reg.block + k in
+    let block : c / 12 ≡ reg.block = omega arith in
+    let place : c % 12 ≡ k = omega arith in
+    let point : ℕ → ℕ → ℕ → Point = λ b i m. reg_point slot s id b bits i m in
+    ap (option_map (λ i. point (c / 12) i (c % 12))) (ap (rank_in first regs s) block ∙ one_at first regs j apart h)
+    ∙ ap (λ b. Some (point b j (c % 12))) block
+    ∙ ap (λ m. Some (point reg.block j m)) place
+
+-- where the REGs are on the grid, so is the image
+pub image_within : (grid : GridValue) (slot first id : ℕ) (regs : List Reg) (bits : List Bool) → AreInside grid first regs
+    → IsWithin grid (image_of slot first id regs bits)
+unfolding image_of
+image_within grid slot first id regs bits inside s c p e =
+    elim (rank_cases first regs s (c / 12)) [
+      | inl n ↦ absurd (none_some p (sym (ap (option_map (λ j. reg_point slot s id (c / 12) bits j (c % 12))) n.none) ∙ e))
+      | inr (j, r) ↦
+          let (row, column) = inside j r.below in
+          (omega (arith, r.symbol_is), omega (arith, r.block_is))
+    ]

@@ -1,0 +1,11 @@
+-- Two bits that follow each other in the sequence make a reference point.
+use Rattle.std.proofs.Common.{◌≡◌, ℕ, ◌+◌, ◌*◌, Bool, ◌∙◌, ap}
+use Rattle.gold_scrambler.specs.Gold.{GoldValue, gold}
+use Rattle.dmrs_qpsk.specs.Modulation.{point_of}
+use Rattle.dmrs_qpsk.specs.ReferencePoints.{sequence_point}
+
+pub pair-is : (start m : ℕ) (g h : GoldValue) (first second : Bool) → first ≡ gold g.c_init g.at → second ≡ gold h.c_init h.at
+    → g.c_init ≡ start → g.at ≡ 2 * m → h.c_init ≡ start → h.at ≡ 2 * m + 1 → point_of first second ≡ sequence_point start m
+pair-is start m g h first second a b c d e f =
+    ap (λ x. point_of x second) (a ∙ ap (λ s. gold s g.at) c ∙ ap (gold start) d)
+    ∙ ap (point_of (gold start (2 * m))) (b ∙ ap (λ s. gold s h.at) e ∙ ap (gold start) f)

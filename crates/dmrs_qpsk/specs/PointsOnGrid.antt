@@ -1,0 +1,38 @@
+-- Coded bits on the grid (3GPP TS 38.211, 7.3.2.4, 7.3.2.5 and 7.4.1.3.2): each REG of a candidate has reference points
+-- at subcarriers 1, 5 and 9, and the QPSK points of the bits at its nine others.
+use Rattle.std.specs.Prelude.{◌≡◌, ℕ, suc, ◌+◌, ◌-◌, ◌*◌, ◌/◌, ◌%◌, ◌<◌, ◌≤◌, Bool, cond, ◌&&◌, ◌||◌, ◌==◌, List, [], ◌∷◌, Option, Some, None, option_map, length, slice_index_or}
+use Rattle.bits_core.specs.Bits.{bit_of}
+use Rattle.slot_grid.specs.declared.places.Point.{Point}
+use Rattle.slot_grid.specs.Grid.{GridValue}
+use Rattle.slot_grid.specs.Image.{Image}
+use Rattle.coreset_map.specs.declared.places.Reg.{Reg}
+use Rattle.coreset_map.specs.DataPlaces.{is_reference}
+use Rattle.coreset_map.specs.RegOrder.{reg_at}
+use Rattle.dmrs_qpsk.specs.Modulation.{point_of}
+use Rattle.dmrs_qpsk.specs.ReferencePoints.{reference}
+
+-- how many data places a block has below subcarrier k, which is one of them
+abbrev pub data_rank : ℕ → ℕ
+data_rank k = k - (k + 2) / 4
+
+-- the point at subcarrier k of REG j, which is in this symbol and block: a reference point, or the point of the two bits of its place
+unfoldable pub reg_point : ℕ → ℕ → ℕ → ℕ → List Bool → ℕ → ℕ → Point
+reg_point slot symbol id block bits j k =
+    cond (is_reference k) (reference slot symbol id block (k / 4))
+    (point_of (bit_of bits (18 * j + 2 * data_rank k)) (bit_of bits (18 * j + 2 * data_rank k + 1)))
+
+-- which REG of a list is in a symbol of the slot and a block, where one is; symbols of REGs are counted from `first` on
+unfoldable pub rank_in : ℕ → List Reg → ℕ → ℕ → Option ℕ
+rank_in first [] symbol block = None
+rank_in first (reg ∷ regs) symbol block =
+    cond (first + reg.symbol == symbol && reg.block == block) (Some 0) (option_map suc (rank_in first regs symbol block))
+
+-- what bits on REGs write on a grid: REG j has bits 18j to 18j + 17
+unfoldable pub image_of : ℕ → ℕ → ℕ → List Reg → List Bool → Image
+image_of slot first id regs bits s c =
+    option_map (λ j. reg_point slot s id (c / 12) bits j (c % 12)) (rank_in first regs s (c / 12))
+
+-- each REG is on the grid, where the list begins in symbol `first`
+abbrev pub AreInside : GridValue → ℕ → List Reg → Type 0
+AreInside grid first regs =
+    (j : ℕ) → j < length regs → (first + (reg_at regs j).symbol < 14) × ((reg_at regs j).block < grid.blocks)

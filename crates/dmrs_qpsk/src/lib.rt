@@ -1,0 +1,14 @@
+//! Coded bits as points on the grid, and back (3GPP TS 38.211, 7.3.2.4, 7.3.2.5 and 7.4.1.3).
+#![tactic(auto)]
+
+pub mod laws;
+mod placing;
+mod reference;
+mod taking;
+
+pub use placing::put_bits;
+pub use reference::reference_point;
+pub use taking::{BadPlace, Flaw, take_bits};
+
+#[cfg(test)]
+mod tests;

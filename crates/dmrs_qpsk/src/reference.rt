@@ -1,0 +1,48 @@
+//! QPSK points, and those of the demodulation reference signal.
+ghost use Rattle.std.specs.Prelude.{◌≡◌, ◌^◌, ◌<◌, ◌≤◌};
+ghost use Rattle.dmrs_qpsk.specs.Modulation.{point_of};
+ghost use Rattle.dmrs_qpsk.specs.ReferencePoints.{reference, reference_start};
+
+use gold_scrambler::Gold;
+use slot_grid::Point;
+
+/// The QPSK point of two bits (3GPP TS 38.211, 5.1.3).
+pub fn qpsk_point(first: bool, second: bool) -> Point
+    ensures { result ≡ point_of first second }
+{
+    match (first, second) {
+        (false, false) => Point::P00,
+        (false, true) => Point::P01,
+        (true, false) => Point::P10,
+        (true, true) => Point::P11,
+    }
+}
+
+/// The reference point at subcarrier `4 * k + 1` of a common block (3GPP TS 38.211, 7.4.1.3.1).
+///
+/// `slot` is below 80, `symbol` is that of the slot, `id` is the scrambling identity, `block` is below 275, and `k` at most 2.
+pub fn reference_point(slot: u16, symbol: u8, id: u16, block: u16, k: u8) -> Point
+    requires slot { slot < 80 }
+    requires symbol { symbol < 14 }
+    requires block { block < 275 }
+    requires k { k ≤ 2 }
+    ensures { result ≡ reference slot symbol id block k }
+{
+    let mut gold = Gold::new(sequence_start(slot, symbol, id));
+    gold.skip(2 * (3 * u32::from(block) + u32::from(k)));
+    let first = gold.next_bit();
+    let second = gold.next_bit();
+    qpsk_point(first, second)
+}
+
+/// The start value of the sequence of reference points in one symbol.
+fn sequence_start(slot: u16, symbol: u8, id: u16) -> u32
+    requires slot { slot < 80 }
+    requires symbol { symbol < 14 }
+    ensures value { result ≡ reference_start slot symbol id }
+    ensures small { result < 2 ^ 31 }
+{
+    let symbols = 14 * u64::from(slot) + u64::from(symbol) + 1;
+    let id = u64::from(id);
+    (((1 << 17) * symbols * (2 * id + 1) + 2 * id) % (1 << 31)) as u32
+}

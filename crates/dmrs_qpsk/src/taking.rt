@@ -1,0 +1,125 @@
+//! The bits on the places of a candidate.
+ghost use Rattle.std.specs.Prelude.{◌≡◌, ◌+◌, ◌*◌, ◌<◌, ◌≤◌, ◌↔◌, Bool, List, length, IfOk, IfErr, OnOk, MatchOption};
+ghost use Rattle.slot_grid.specs.declared.places.Point.TheVariants.{Empty as NoPoint};
+ghost use Rattle.slot_grid.specs.Grid.{point_at};
+ghost use Rattle.dmrs_qpsk.specs.declared.taking.BadPlace.{BadPlace};
+ghost use Rattle.dmrs_qpsk.specs.Modulation.{point_of};
+ghost use Rattle.coreset_map.specs.RegOrder.{AreRegs};
+ghost use Rattle.dmrs_qpsk.specs.PointsOnGrid.{AreInside};
+ghost use Rattle.dmrs_qpsk.specs.Held.{Holds, IsFlawed, IsFirstBad};
+ghost use Rattle.dmrs_qpsk.specs.Taken.{IsPointTaken};
+
+use crate::reference::reference_point;
+use arrayvec::ArrayVec;
+use bits_core::Coded;
+use coreset_map::Reg;
+use slot_grid::{Grid, Point};
+
+/// What is wrong with a place of a candidate.
+#[derive(Clone, Copy, Debug, PartialEq, Eq)]
+pub enum Flaw {
+    /// The place is for data and has no point.
+    Empty,
+    /// The place is for a reference point and has not that point.
+    Reference,
+}
+
+/// A place of a candidate that keeps it from having bits: its symbol of the slot, its subcarrier, and what is wrong there.
+#[derive(Clone, Copy, Debug, PartialEq, Eq)]
+pub struct BadPlace {
+    pub symbol: u8,
+    pub subcarrier: u16,
+    pub flaw: Flaw,
+}
+
+/// The bits whose points are on the data places of REGs, 18 for each, where every reference place has its reference point.
+///
+/// The REGs are in order of symbol, then block, and inside the grid, where their symbols are counted from symbol `first` of the slot.
+/// `id` is the scrambling identity of the reference points. The error is the first bad place by symbol, then subcarrier.
+pub fn take_bits(
+    grid: &Grid,
+    first: u8,
+    regs: &ArrayVec<Reg, 96>,
+    id: u16,
+) -> Result<Coded, BadPlace>
+    requires regs { AreRegs regs.now.items }
+    requires inside { AreInside grid.now first regs.now.items }
+    ensures bits { (bits : List Bool) → (result ≡ Ok bits) ↔ Holds grid.now first id regs.now.items bits }
+    ensures bad { (bad : BadPlace) → (result ≡ Err bad) ↔ IsFirstBad grid.now first id regs.now.items bad }
+    ensures length { IfOk result (λ bits. length bits ≡ 18 * length regs.now.items) }
+{
+    take_regs(grid, first, regs.as_slice(), id)
+}
+
+/// The bits on each REG.
+fn take_regs(grid: &Grid, first: u8, regs: &[Reg], id: u16) -> Result<Coded, BadPlace>
+    requires regs { AreRegs regs.now }
+    requires inside { AreInside grid.now first regs.now }
+    requires few { length regs.now ≤ 96 }
+    ensures bits { IfOk result (λ bits. Holds grid.now first id regs.now bits) }
+    ensures bad { IfErr result (λ bad. IsFirstBad grid.now first id regs.now bad) }
+{
+    let _blocks = grid.blocks();
+    let mut bits = Coded::new();
+    for place in 0..12 * regs.len() {
+        let reg = regs[place / 12];
+        let k = (place % 12) as u8;
+        let symbol = first + reg.symbol;
+        if let Err(flaw) = take_point(grid, symbol, id, reg.block, k, &mut bits) {
+            let subcarrier = 12 * reg.block + u16::from(k);
+            return Err(BadPlace {
+                symbol,
+                subcarrier,
+                flaw,
+            });
+        }
+    }
+    Ok(bits)
+}
+
+/// Appends the bits at subcarrier `k` of a REG, which is in this symbol of the slot and this block: two, or none at a reference place.
+fn take_point(
+    grid: &Grid,
+    symbol: u8,
+    id: u16,
+    block: u16,
+    k: u8,
+    bits: &mut Coded,
+) -> Result<(), Flaw>
+    requires symbol { symbol < 14 }
+    requires block { block < grid.now.blocks }
+    requires k { k < 12 }
+    requires room { length bits.old + 2 ≤ 1728 }
+    ensures taken { OnOk result (IsPointTaken grid.now symbol id block k bits.old bits.new) }
+    ensures flawed { IfErr result (λ flaw. IsFlawed grid.now.slot symbol id block k (point_at grid.now symbol (12 * block + k)) flaw) }
+{
+    let _blocks = grid.blocks();
+    let point = grid.get(symbol, 12 * block + u16::from(k));
+    if k == 1 || k == 5 || k == 9 {
+        if point == reference_point(grid.slot(), symbol, id, block, k / 4) {
+            return Ok(());
+        }
+        return Err(Flaw::Reference);
+    }
+    match bits_of_point(point) {
+        Some((first, second)) => {
+            bits.push(first);
+            bits.push(second);
+            Ok(())
+        }
+        None => Err(Flaw::Empty),
+    }
+}
+
+/// The two bits of a QPSK point, none of an empty place (3GPP TS 38.211, 5.1.3).
+fn bits_of_point(point: Point) -> Option<(bool, bool)>
+    ensures { MatchOption result (point ≡ NoPoint) (λ bits. point ≡ point_of bits.0 bits.1) }
+{
+    match point {
+        Point::Empty => None,
+        Point::P00 => Some((false, false)),
+        Point::P01 => Some((false, true)),
+        Point::P10 => Some((true, false)),
+        Point::P11 => Some((true, true)),
+    }
+}

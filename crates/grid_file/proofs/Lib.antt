@@ -1,0 +1,14 @@
+pub mod Texts
+pub mod Leaving
+pub mod Digits
+pub mod FieldTexts
+pub mod PatternTexts
+pub mod RestTexts
+pub mod GridTexts
+pub mod HeadTexts
+pub mod Words
+pub mod NumberSteps
+pub mod Exits
+pub mod HeadSteps
+pub mod Placing
+pub mod OneText

@@ -1,0 +1,14 @@
+use Rattle.grid_file.proofs.OneText.{fault_leaves, no_text_answers, read_is_text, text_answers}
+use Rattle.grid_file.proofs.reader.read_grid.Goals as goal
+
+pub returns-clause-text : goal.returns-clause-text
+returns-clause-text c = text_answers c.args.bytes.now c.grid_in.result c.grid_in.ensures.read c.grid_in.ensures.why
+
+pub returns-clause-no_text : goal.returns-clause-no_text
+returns-clause-no_text c = no_text_answers c.args.bytes.now c.grid_in.result c.grid_in.ensures.read c.grid_in.ensures.why
+
+pub returns-clause-read : goal.returns-clause-read
+returns-clause-read c = read_is_text c.args.bytes.now c.grid_in.result c.grid_in.ensures.read
+
+pub returns-clause-fault : goal.returns-clause-fault
+returns-clause-fault c = fault_leaves c.args.bytes.now c.grid_in.result c.grid_in.ensures.why
