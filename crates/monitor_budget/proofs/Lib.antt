@@ -1,0 +1,11 @@
+pub mod Ranges
+pub mod Made
+pub mod Allotments
+pub mod TallyCounts
+pub mod Fronts
+pub mod SearchOrder
+pub mod FinalCounts
+pub mod Placed
+pub mod Adding
+pub mod Distinct
+pub mod LegalSearchSets

@@ -1,0 +1,47 @@
+-- What a tally counts, one set more, and how many.
+use Rattle.std.proofs.Common.{◌≡◌, ℕ, Bool, false, replicate, List, [], ◌∷◌, ◌++◌, length, count_by, refl, sym, ◌∙◌, ap, subst}
+use Rattle.std.specs.List.{flat_map}
+use Rattle.std.proofs.lemmas.List.{append-nil}
+use Rattle.std.proofs.lemmas.Grind.{flat_map-append}
+use Rattle.rrc_settings.specs.declared.settings.RawCell.{RawCell}
+use Rattle.rrc_settings.specs.declared.settings.Handset.{Handset}
+use Rattle.dci_fields.specs.declared.sizes.Sizes.{Sizes}
+use Rattle.monitor_budget.specs.declared.counted.Counted.{Counted}
+use Rattle.monitor_budget.specs.declared.tally.Tally.{Tally}
+use Rattle.monitor_budget.specs.Counts.{Cce, set_at, counted_of, all_counted, cces_of, all_cces, candidate_count, different_cces}
+use Rattle.monitor_budget.specs.Tally.{AddsCounted, AddsCces, Tallies}
+use Rattle.monitor_budget.proofs.Adding.{counted_none, counted_then, cces_none, cces_then}
+use Rattle.monitor_budget.proofs.FinalCounts.{counted-are, cces-are}
+
+pub tallies-none : (cell : RawCell) (h : Handset) (sizes : Sizes) (tally : Tally) → tally.seen.items ≡ [] → tally.marks ≡ replicate 32256 false
+    → Tallies cell h sizes [] tally
+unfolding all_counted all_cces
+tallies-none cell h sizes tally e f = record {
+  counted = subst (λ (xs : List Counted). AddsCounted [] xs []) (sym e) (counted_none []);
+  cces = subst (λ (xs : List Bool). AddsCces (replicate 32256 false) xs []) (sym f) (cces_none (replicate 32256 false));
+}
+
+one_more : {A : Type 0} (f : ℕ → List A) (places : List ℕ) (place : ℕ) → flat_map f places ++ f place ≡ flat_map f (places ++ place ∷ [])
+one_more f places place = sym (flat_map-append f places (place ∷ []) ∙ ap (λ xs. flat_map f places ++ xs) (append-nil (f place)))
+
+pub tallies-more : (cell : RawCell) (h : Handset) (sizes : Sizes) (places : List ℕ) (place : ℕ) (old new : Tally) → Tallies cell h sizes places old
+    → AddsCounted old.seen.items new.seen.items (counted_of cell h sizes (set_at h place))
+    → AddsCces old.marks new.marks (cces_of cell h sizes (set_at h place))
+    → Tallies cell h sizes (places ++ place ∷ []) new
+unfolding all_counted all_cces
+tallies-more cell h sizes places place old new t a b = record {
+  counted = subst (λ (xs : List Counted). AddsCounted [] new.seen.items xs) (one_more (λ p. counted_of cell h sizes (set_at h p)) places place)
+      (counted_then [] old.seen.items new.seen.items (flat_map (λ p. counted_of cell h sizes (set_at h p)) places) (counted_of cell h sizes (set_at h place)) t.counted a);
+  cces = subst (λ (xs : List Cce). AddsCces (replicate 32256 false) new.marks xs) (one_more (λ p. cces_of cell h sizes (set_at h p)) places place)
+      (cces_then (replicate 32256 false) old.marks new.marks (flat_map (λ p. cces_of cell h sizes (set_at h p)) places) (cces_of cell h sizes (set_at h place)) t.cces b);
+}
+
+pub candidates-are : (cell : RawCell) (h : Handset) (sizes : Sizes) (places : List ℕ) (tally : Tally) → Tallies cell h sizes places tally
+    → length tally.seen.items ≡ candidate_count cell h sizes places
+unfolding candidate_count
+candidates-are cell h sizes places tally t = counted-are tally.seen.items (all_counted cell h sizes places) t.counted
+
+pub different-are : (cell : RawCell) (h : Handset) (sizes : Sizes) (places : List ℕ) (tally : Tally) → Tallies cell h sizes places tally
+    → length tally.marks ≡ 32256 → count_by (λ b. b) tally.marks ≡ different_cces cell h sizes places
+unfolding different_cces
+different-are cell h sizes places tally t e = cces-are tally.marks (all_cces cell h sizes places) e t.cces

@@ -1,0 +1,7 @@
+pub mod SetCandidates
+pub mod Scrambling
+pub mod Counts
+pub mod Limits
+pub mod Allotting
+pub mod Equality
+pub mod Tally

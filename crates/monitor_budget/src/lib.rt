@@ -1,0 +1,17 @@
+//! Which search space sets a handset looks at in a slot, and how many candidates and CCEs these have (3GPP TS 38.213, 10.1).
+#![tactic(auto)]
+
+mod allotment;
+mod calendar;
+mod candidates;
+mod counted;
+mod limits;
+mod marks;
+mod same;
+mod scrambling;
+mod sets;
+mod tally;
+
+pub use allotment::{Allotment, CommonOver, allot};
+pub use candidates::{Candidate, candidates_of};
+pub use sets::{coreset_under, handset_in, scrambling_of, set_in};

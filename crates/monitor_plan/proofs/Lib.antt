@@ -1,0 +1,7 @@
+pub mod SpanWidths
+pub mod FormatWidths
+pub mod FittingSizes
+pub mod SetFits
+pub mod WatchParts
+pub mod Plans
+pub mod SoundWatches

@@ -1,0 +1,290 @@
+-- Each watch of the sets of a legal cell is sound and inside the slot and the carrier, and those of one set are alike.
+use Rattle.std.proofs.Common.{◌≡◌, ℕ, zero, suc, ◌+◌, ◌*◌, ◌%◌, ◌^◌, ◌<◌, ◌≤◌, ◌⊎◌, inl, inr, Bool, true, false, ◌&&◌, ◌==◌, cond, min, max, Option, Some, None, is_some, unwrap_or, IfSome, IsTrue, List, [], ◌∷◌, map, length, All, get_or, refl, sym, ◌∙◌, ap, subst, arith}
+use Rattle.std.specs.List.{flat_map}
+use Rattle.std.specs.Option.{option_to_list}
+use Rattle.std.proofs.Math.Nat.{mod-lt}
+use Rattle.std.proofs.lemmas.Bool.{eqb-true, cases_order}
+use Rattle.rrc_settings.specs.declared.settings.RawCell.{RawCell}
+use Rattle.rrc_settings.specs.declared.settings.Handset.{Handset}
+use Rattle.rrc_settings.specs.declared.settings.SearchSet.{SearchSet}
+use Rattle.rrc_settings.specs.declared.settings.SetKind.{SetKind}
+use Rattle.rrc_settings.specs.declared.settings.SetKind.TheVariants as kinds
+use Rattle.rrc_settings.specs.Legal.{IsLegal}
+use Rattle.rrc_settings.specs.Conflicts.{is_specific}
+use Rattle.dci_fields.specs.declared.formats.Format.{Format}
+use Rattle.dci_fields.specs.declared.formats.Format.TheVariants.{F00, F10, Order, F01, F11}
+use Rattle.dci_fields.specs.declared.rows.FieldRow.{FieldRow}
+use Rattle.dci_fields.specs.declared.sizes.Sizes.{Sizes}
+use Rattle.dci_fields.specs.FieldLists.{width_of}
+use Rattle.dci_fields.specs.FormatRows.{rows_of}
+use Rattle.dci_fields.specs.FittedRows.{fitted, order_of}
+use Rattle.dci_fields.specs.Alignment.{sizes_of}
+use Rattle.coreset_map.specs.ControlResources.{Resources, cce_count, AreBelow, AreResources}
+use Rattle.coreset_map.specs.Candidates.{candidate_regs}
+use Rattle.coreset_map.specs.RegOrder.{reg_at, AreRegs, AreWithin}
+use Rattle.coreset_map.specs.ResourcesOfCell.{handset_at, coreset_at, resources_in, resources_of}
+use Rattle.coreset_map.proofs.Members.{IsIn, in-map, in-flat_map, at-in}
+use Rattle.coreset_map.proofs.CandidateRegs.{length-candidate, candidate-order, candidate-within}
+use Rattle.coreset_map.proofs.LegalResources.{IsLegalSet, legal-resources}
+use Rattle.monitor_budget.specs.declared.candidates.Candidate.{Candidate}
+use Rattle.monitor_budget.specs.SetCandidates.{IsPlaced, sizes_in, rising, rising_sizes}
+use Rattle.monitor_budget.specs.Scrambling.{sequence_start, own_start, scrambling_start}
+use Rattle.monitor_budget.specs.Counts.{set_at, coreset_of, cces_under, candidates_of, scrambling_of}
+use Rattle.monitor_budget.proofs.LegalSearchSets.{IsLegalSearchSet, legal-set, number-once, coreset-there, are-asked}
+use Rattle.monitor_budget.proofs.Placed.{IsOf, in-set, is-placed}
+use Rattle.monitor_plan.specs.declared.watch.Watch.{Watch}
+use Rattle.monitor_plan.specs.Watch.{is_for_fallback, fits, list_of, HasRoomForOrder, IsSound, IsInside, watch_at, no_watch, AreAlike}
+use Rattle.monitor_plan.specs.Watches.{up_format, down_format, up_size, down_size, widths_in, list_at, up_list, down_list, watch_of, set_watches, watches_of}
+use Rattle.monitor_plan.proofs.FittingSizes.{Fit, Fits, SetFit}
+use Rattle.monitor_plan.proofs.SetFits.{legal-fit}
+
+-- a size that a set monitors is that of one of its formats
+size_in_option : (o : Option ℕ) (size : ℕ) → IsIn size (option_to_list o) → o ≡ Some size
+size_in_option None size i = absurd i
+size_in_option (Some n) size (inl e) = ap (λ (k : ℕ). Some k) (sym e)
+size_in_option (Some n) size (inr i) = absurd i
+
+in_rising : (up down size : ℕ) → IsIn size (rising up down) → (up ≡ size) ⊎ (down ≡ size)
+in_rising up down size i = by (up == down) i
+  where
+    smaller : size ≡ min up down → (up ≡ size) ⊎ (down ≡ size)
+    smaller e = elim (cases_order up down) [
+      | inl same ↦ inl (omega arith)
+      | inr (inl less) ↦ inl (omega arith)
+      | inr (inr more) ↦ inr (omega arith)
+    ]
+
+    larger : size ≡ max up down → (up ≡ size) ⊎ (down ≡ size)
+    larger e = elim (cases_order up down) [
+      | inl same ↦ inl (omega arith)
+      | inr (inl less) ↦ inr (omega arith)
+      | inr (inr more) ↦ inl (omega arith)
+    ]
+
+    by : (b : Bool) → IsIn size (cond b (up ∷ []) (min up down ∷ max up down ∷ [])) → (up ≡ size) ⊎ (down ≡ size)
+    by true (inl e) = inl (sym e)
+    by true (inr j) = absurd j
+    by false (inl e) = smaller e
+    by false (inr (inl e)) = larger e
+    by false (inr (inr j)) = absurd j
+
+size_in_rising : (up down : Option ℕ) (size : ℕ) → IsIn size (rising_sizes up down) → (up ≡ Some size) ⊎ (down ≡ Some size)
+size_in_rising None None size i = absurd i
+size_in_rising (Some u) None size (inl e) = inl (ap (λ (k : ℕ). Some k) (sym e))
+size_in_rising (Some u) None size (inr i) = absurd i
+size_in_rising None (Some d) size (inl e) = inr (ap (λ (k : ℕ). Some k) (sym e))
+size_in_rising None (Some d) size (inr i) = absurd i
+size_in_rising (Some u) (Some d) size i =
+    elim (in_rising u d size i) as (λ _. (◌≡◌ {A = Option ℕ} (Some u) (Some size)) ⊎ (◌≡◌ {A = Option ℕ} (Some d) (Some size))) [
+      | inl e ↦ inl (ap (λ (k : ℕ). Some k) e)
+      | inr e ↦ inr (ap (λ (k : ℕ). Some k) e)
+    ]
+
+size-known : (sizes : Sizes) (kind : SetKind) (size : ℕ) → IsIn size (sizes_in sizes kind) → (up_size sizes kind ≡ Some size) ⊎ (down_size sizes kind ≡ Some size)
+size-known sizes kinds.Common size i = inl (size_in_option sizes.common size i)
+size-known sizes kinds.Fallback size i = inl (size_in_option sizes.fallback size i)
+size-known sizes kinds.Specific size i = size_in_rising sizes.up sizes.down size i
+
+-- a list at a size is fitted to it
+list-within : (own : Option ℕ) (rows : List FieldRow) (size : ℕ) → Fits own rows → IfSome (list_at own rows size) (λ (xs : List FieldRow). width_of xs ≤ size)
+list-within None rows size f = tt
+list-within (Some n) rows size f = by (n == size) refl
+  where
+    by : (b : Bool) → (n == size) ≡ b → IfSome (cond b (Some (fitted rows size)) None) (λ (xs : List FieldRow). width_of xs ≤ size)
+    by true e = (f size (ap (λ (k : ℕ). Some k) (eqb-true n size e))).within
+    by false e = tt
+
+list-room : (own : Option ℕ) (rows : List FieldRow) (size : ℕ) → (own ≡ Some size → HasRoomForOrder size (fitted rows size))
+    → IfSome (list_at own rows size) (HasRoomForOrder size)
+list-room None rows size f = tt
+list-room (Some n) rows size f = by (n == size) refl
+  where
+    by : (b : Bool) → (n == size) ≡ b → IfSome (cond b (Some (fitted rows size)) None) (HasRoomForOrder size)
+    by true e = f (ap (λ (k : ℕ). Some k) (eqb-true n size e))
+    by false e = tt
+
+-- scrambling starts are below 2^31
+start-below : (r i : ℕ) → sequence_start r i < 2 ^ 31
+start-below r i = mod-lt (r * 2 ^ 16 + i) (omega arith)
+
+own-below : (cell rnti : ℕ) (id : Option ℕ) → own_start cell rnti id < 2 ^ 31
+own-below cell rnti None = start-below 0 cell
+own-below cell rnti (Some id) = start-below rnti id
+
+scrambling-below : (kind : SetKind) (cell rnti : ℕ) (id : Option ℕ) → scrambling_start kind cell rnti id < 2 ^ 31
+scrambling-below kinds.Common cell rnti id = start-below 0 cell
+scrambling-below kinds.Fallback cell rnti id = own-below cell rnti id
+scrambling-below kinds.Specific cell rnti id = own-below cell rnti id
+
+-- the resources of a set
+set-resources : (cell : RawCell) (handset set : ℕ) → IsLegal cell → handset < length cell.handsets → set < length (handset_at cell handset).sets.items
+    → let r = resources_in cell.cell (handset_at cell handset).downlink.start (coreset_of (handset_at cell handset) (set_at (handset_at cell handset) set)) in
+    AreResources r × AreBelow cell.blocks r
+set-resources cell handset set h l m =
+    let hs = handset_at cell handset in
+    let s = set_at hs set in
+    let known = legal-set cell handset set h l m in
+    let (k, n, e) = coreset-there hs s known.found in
+    let r = legal-resources cell handset k h l n in
+    let same = ap (λ c. resources_in cell.cell hs.downlink.start c) e in
+    (subst AreResources same r.resources, subst (AreBelow cell.blocks) same r.inside)
+
+-- a candidate of a set stands in its CORESET
+candidate-placed : (cell : RawCell) (handset set : ℕ) (sizes : Sizes) (c : Candidate) → IsLegal cell → handset < length cell.handsets
+    → set < length (handset_at cell handset).sets.items → IsIn c (candidates_of cell (handset_at cell handset) sizes (set_at (handset_at cell handset) set))
+    → IsPlaced (cces_under cell (handset_at cell handset) (set_at (handset_at cell handset) set)) (set_at (handset_at cell handset) set) c
+candidate-placed cell handset set sizes c h l m i =
+    let hs = handset_at cell handset in
+    let s = set_at hs set in
+    is-placed (cces_under cell hs s) (sizes_in sizes s.kind) s c
+    (are-asked cell.cell hs.downlink.start (cces_under cell hs s) hs s (legal-set cell handset set h l m) refl) i
+
+pub sound-watch : (cell : RawCell) (handset set : ℕ) (c : Candidate) → IsLegal cell → handset < length cell.handsets → set < length (handset_at cell handset).sets.items
+    → IsIn c (candidates_of cell (handset_at cell handset) (sizes_of cell (handset_at cell handset)) (set_at (handset_at cell handset) set))
+    → IsSound (watch_of cell (handset_at cell handset) (sizes_of cell (handset_at cell handset)) (set_at (handset_at cell handset) set) c)
+unfolding watch_of
+sound-watch cell handset set c h l m i =
+    let hs = handset_at cell handset in
+    let s = set_at hs set in
+    let sizes = sizes_of cell hs in
+    let r = resources_in cell.cell hs.downlink.start (coreset_of hs s) in
+    let (a, b) = set-resources cell handset set h l m in
+    let p = candidate-placed cell handset set sizes c h l m i in
+    let f = legal-fit cell handset set h l m in
+    let o = in-set (cces_under cell hs s) (sizes_in sizes s.kind) s c i in
+    let known : IsIn c.size (sizes_in sizes s.kind) = subst (λ n. IsIn n (sizes_in sizes s.kind)) (sym (ap (λ (x : Candidate). x.size) o.is)) o.sized in
+    let bounds : (23 ≤ c.size) × (c.size ≤ 84) = elim (size-known sizes s.kind c.size known) as (λ _. (23 ≤ c.size) × (c.size ≤ 84)) [
+      | inl e ↦ let x = f.up c.size e in (x.least, x.most)
+      | inr e ↦ let x = f.down c.size e in (x.least, x.most)
+    ] in
+    record {
+      level = p.level;
+      count = length-candidate r c.start c.level a p.within;
+      order = candidate-order r c.start c.level a;
+      least = bounds.0;
+      most = bounds.1;
+      up = list-within (up_size sizes s.kind) (rows_of cell hs (up_format s.kind) (widths_in sizes s.kind)) c.size f.up;
+      down = list-within (down_size sizes s.kind) (rows_of cell hs (down_format s.kind) (widths_in sizes s.kind)) c.size f.down;
+      scramble = scrambling-below s.kind cell.cell hs.rnti (coreset_of hs s).dmrs_id;
+      fallback = λ t. list-room (down_size sizes s.kind) (rows_of cell hs (down_format s.kind) (widths_in sizes s.kind)) c.size (f.room t c.size);
+    }
+
+pub inside-watch : (cell : RawCell) (handset set : ℕ) (sizes : Sizes) (c : Candidate) → IsLegal cell → handset < length cell.handsets → set < length (handset_at cell handset).sets.items
+    → IsIn c (candidates_of cell (handset_at cell handset) sizes (set_at (handset_at cell handset) set))
+    → IsInside cell.blocks (watch_of cell (handset_at cell handset) sizes (set_at (handset_at cell handset) set) c)
+unfolding watch_of
+inside-watch cell handset set sizes c h l m i j k =
+    let hs = handset_at cell handset in
+    let s = set_at hs set in
+    let r = resources_in cell.cell hs.downlink.start (coreset_of hs s) in
+    let (a, b) = set-resources cell handset set h l m in
+    let p = candidate-placed cell handset set sizes c h l m i in
+    let w = candidate-within r c.start c.level cell.blocks b j k in
+    let e = (legal-set cell handset set h l m).ends c.symbol (let n = p.symbol in omega (arith, n)) p.begins in
+    (let x = w.0 in omega (arith, e, x), w.1)
+
+-- the watches of some sets of the handset
+pub record IsWatch (cell : RawCell) (h : Handset) (sizes : Sizes) (w : Watch) : Type 0 where
+  pub place : ℕ
+  pub candidate : Candidate
+  pub within : place < length h.sets.items
+  pub listed : IsIn candidate (candidates_of cell h sizes (set_at h place))
+  pub is : w ≡ watch_of cell h sizes (set_at h place) candidate
+
+pub in-watches : (cell : RawCell) (h : Handset) (sizes : Sizes) (places : List ℕ) (w : Watch) → ((place : ℕ) → IsIn place places → place < length h.sets.items)
+    → IsIn w (watches_of cell h sizes places) → IsWatch cell h sizes w
+unfolding watches_of set_watches
+in-watches cell h sizes places w below i =
+    let (place, j, k) = in-flat_map (λ p. set_watches cell h sizes (set_at h p)) w places i in
+    let (c, l, e) = in-map (watch_of cell h sizes (set_at h place)) w (candidates_of cell h sizes (set_at h place)) k in
+    record { place = place; candidate = c; within = below place j; listed = l; is = e }
+
+-- two lists of one format that are there
+list-there : (own : Option ℕ) (rows : List FieldRow) (size : ℕ) → is_some (list_at own rows size) ≡ true
+    → (own ≡ Some size) × (list_at own rows size ≡ Some (fitted rows size))
+list-there None rows size e = absurd (cc)
+list-there (Some n) rows size e = by (n == size) refl e
+  where
+    by : (b : Bool) → (n == size) ≡ b → is_some (cond b (Some (fitted rows size)) None) ≡ true
+        → (◌≡◌ {A = Option ℕ} (Some n) (Some size)) × (cond b (Some (fitted rows size)) None ≡ Some (fitted rows size))
+    by true f g = (ap (λ (k : ℕ). Some k) (eqb-true n size f), refl)
+    by false f g = absurd (cc)
+
+list-same : (own : Option ℕ) (rows : List FieldRow) (m n : ℕ) → is_some (list_at own rows m) ≡ true → is_some (list_at own rows n) ≡ true
+    → (list_at own rows m ≡ list_at own rows n) × (m ≡ n)
+list-same own rows m n h k =
+    let (a, b) = list-there own rows m h in
+    let (c, d) = list-there own rows n k in
+    let same : m ≡ n = some-once m n (sym a ∙ c) in
+    (ap (λ (x : ℕ). list_at own rows x) same, same)
+  where
+    some-once : (m n : ℕ) → ◌≡◌ {A = Option ℕ} (Some m) (Some n) → m ≡ n
+    some-once m n e = cc
+
+both : (x y : Bool) → (x && y) ≡ true → (x ≡ true) × (y ≡ true)
+both true y h = (refl, h)
+both false y h = absurd (cc)
+
+-- two watches of one set that a format fits
+alike-watches : (cell : RawCell) (h : Handset) (sizes : Sizes) (s : SearchSet) (c d : Candidate) (format : Format)
+    → fits (watch_of cell h sizes s c) format ≡ true → fits (watch_of cell h sizes s d) format ≡ true
+    → (list_of (watch_of cell h sizes s c) format ≡ list_of (watch_of cell h sizes s d) format) × ((watch_of cell h sizes s c).size ≡ (watch_of cell h sizes s d).size)
+unfolding watch_of
+alike-watches cell h sizes s c d F00 f g =
+    let (a, b) = list-same (up_size sizes s.kind) (rows_of cell h (up_format s.kind) (widths_in sizes s.kind)) c.size d.size (both (is_for_fallback s.kind) _ f).1 (both (is_for_fallback s.kind) _ g).1 in
+    (ap (λ (o : Option (List FieldRow)). unwrap_or o []) a, b)
+alike-watches cell h sizes s c d F10 f g =
+    let (a, b) = list-same (down_size sizes s.kind) (rows_of cell h (down_format s.kind) (widths_in sizes s.kind)) c.size d.size (both (is_for_fallback s.kind) _ f).1 (both (is_for_fallback s.kind) _ g).1 in
+    (ap (λ (o : Option (List FieldRow)). unwrap_or o []) a, b)
+alike-watches cell h sizes s c d Order f g =
+    let (a, b) = list-same (down_size sizes s.kind) (rows_of cell h (down_format s.kind) (widths_in sizes s.kind)) c.size d.size (both (is_for_fallback s.kind) _ f).1 (both (is_for_fallback s.kind) _ g).1 in
+    (ap (λ (o : Option (List FieldRow)). order_of (unwrap_or o [])) a, b)
+alike-watches cell h sizes s c d F01 f g =
+    let (a, b) = list-same (up_size sizes s.kind) (rows_of cell h (up_format s.kind) (widths_in sizes s.kind)) c.size d.size (both (is_specific s.kind) _ f).1 (both (is_specific s.kind) _ g).1 in
+    (ap (λ (o : Option (List FieldRow)). unwrap_or o []) a, b)
+alike-watches cell h sizes s c d F11 f g =
+    let (a, b) = list-same (down_size sizes s.kind) (rows_of cell h (down_format s.kind) (widths_in sizes s.kind)) c.size d.size (both (is_specific s.kind) _ f).1 (both (is_specific s.kind) _ g).1 in
+    (ap (λ (o : Option (List FieldRow)). unwrap_or o []) a, b)
+
+-- what holds of the watches of some sets of a legal cell
+pub all-sound : (cell : RawCell) (handset : ℕ) (places : List ℕ) → IsLegal cell → handset < length cell.handsets
+    → ((place : ℕ) → IsIn place places → place < length (handset_at cell handset).sets.items)
+    → All IsSound (watches_of cell (handset_at cell handset) (sizes_of cell (handset_at cell handset)) places)
+all-sound cell handset places h l below k d n =
+    let hs = handset_at cell handset in
+    let watches = watches_of cell hs (sizes_of cell hs) places in
+    let w = in-watches cell hs (sizes_of cell hs) places (get_or watches k d) below (at-in watches k d n) in
+    subst IsSound (sym w.is) (sound-watch cell handset w.place w.candidate h l w.within w.listed)
+
+pub all-inside : (cell : RawCell) (handset : ℕ) (places : List ℕ) → IsLegal cell → handset < length cell.handsets
+    → ((place : ℕ) → IsIn place places → place < length (handset_at cell handset).sets.items)
+    → All (IsInside cell.blocks) (watches_of cell (handset_at cell handset) (sizes_of cell (handset_at cell handset)) places)
+all-inside cell handset places h l below k d n =
+    let hs = handset_at cell handset in
+    let watches = watches_of cell hs (sizes_of cell hs) places in
+    let w = in-watches cell hs (sizes_of cell hs) places (get_or watches k d) below (at-in watches k d n) in
+    subst (IsInside cell.blocks) (sym w.is) (inside-watch cell handset w.place (sizes_of cell hs) w.candidate h l w.within w.listed)
+
+watch-number : (cell : RawCell) (h : Handset) (sizes : Sizes) (s : SearchSet) (c : Candidate) → (watch_of cell h sizes s c).set ≡ s.number
+unfolding watch_of
+watch-number cell h sizes s c = refl
+
+pub all-alike : (cell : RawCell) (handset : ℕ) (sizes : Sizes) (places : List ℕ) → IsLegal cell → handset < length cell.handsets
+    → ((place : ℕ) → IsIn place places → place < length (handset_at cell handset).sets.items)
+    → AreAlike (watches_of cell (handset_at cell handset) sizes places)
+all-alike cell handset sizes places h l below i j format m n same f g =
+    let hs = handset_at cell handset in
+    let watches = watches_of cell hs sizes places in
+    let w = in-watches cell hs sizes places (watch_at watches i) below (at-in watches i no_watch m) in
+    let v = in-watches cell hs sizes places (watch_at watches j) below (at-in watches j no_watch n) in
+    let number : (set_at hs w.place).number ≡ (set_at hs v.place).number =
+    sym (ap (λ (x : Watch). x.set) w.is ∙ watch-number cell hs sizes (set_at hs w.place) w.candidate)
+    ∙ same ∙ (ap (λ (x : Watch). x.set) v.is ∙ watch-number cell hs sizes (set_at hs v.place) v.candidate) in
+    let place = number-once cell handset w.place v.place h l w.within v.within number in
+    let vis : watch_at watches j ≡ watch_of cell hs sizes (set_at hs w.place) v.candidate =
+    v.is ∙ ap (λ (p : ℕ). watch_of cell hs sizes (set_at hs p) v.candidate) (sym place) in
+    let (a, b) = alike-watches cell hs sizes (set_at hs w.place) w.candidate v.candidate format
+    (subst (λ (x : Watch). fits x format ≡ true) w.is f) (subst (λ (x : Watch). fits x format ≡ true) vis g) in (
+      ap (λ (x : Watch). list_of x format) w.is ∙ a ∙ sym (ap (λ (x : Watch). list_of x format) vis),
+      ap (λ (x : Watch). x.size) w.is ∙ b ∙ sym (ap (λ (x : Watch). x.size) vis),
+    )

@@ -1,0 +1,16 @@
+use Rattle.std.proofs.Common.{◌≡◌, ℕ, List, ◌++◌, ◌∙◌, sym, ap}
+use Rattle.coreset_map.specs.ResourcesOfCell.{handset_at}
+use Rattle.monitor_budget.specs.Counts.{set_at}
+use Rattle.monitor_plan.specs.Watches.{set_watches}
+use Rattle.monitor_plan.proofs.WatchParts.{watches-none, watches-more, watches-all}
+use Rattle.monitor_plan.proofs.plan.watches_of.Goals as goal
+
+pub loop-place-init : goal.loop-place-init
+loop-place-init c = c.new-watches.ensures.items ∙ sym (watches-none c.args.cell.now (handset_at c.args.cell.now c.args.handset) c.args.sizes.now)
+
+pub loop-place-preserved : goal.loop-place-preserved
+loop-place-preserved c =
+    let h = handset_at c.args.cell.now c.args.handset in
+    let l = c.loop-place in
+    watches-more c.args.cell.now h c.args.sizes.now c.args.places.now l.place-index l.watches.items c.push_set.new.watches.items c.loop-place-test.true l.invariant
+    (c.in_ok-push_set.ensures ∙ ap (λ (k : ℕ). l.watches.items ++ set_watches c.args.cell.now h c.args.sizes.now (set_at h k)) c.from.ensures)

@@ -1,0 +1,9 @@
+use Rattle.std.proofs.Common.{◌≡◌, take}
+use Rattle.std.specs.List.{flat_map}
+use Rattle.coreset_map.specs.ResourcesOfCell.{handset_at}
+use Rattle.monitor_budget.specs.Counts.{set_at}
+use Rattle.monitor_plan.specs.Watches.{watches_of}
+use Rattle.monitor_plan.proofs.plan.watches_of.Given as goal
+
+abbrev pub invariant-loop-place : goal.invariant-loop-place
+invariant-loop-place l = l.watches.items ≡ watches_of l.cell (handset_at l.cell l.handset) l.sizes (take l.place-index l.places)

@@ -1,0 +1,4 @@
+pub mod Watch
+pub mod Watches
+pub mod Planned
+pub mod Equality

@@ -1,0 +1,93 @@
+-- A watch of a handset: the formats that fit it, their fields, and what each watch of a plan keeps.
+use Rattle.std.specs.Prelude.{◌≡◌, ℕ, ◌+◌, ◌*◌, ◌^◌, ◌<◌, ◌≤◌, Bool, true, false, ◌&&◌, List, [], ◌∷◌, Option, Some, None, is_some, unwrap_or, length, IfSome, IsTrue, All, slice_index_or}
+use Rattle.rrc_settings.specs.declared.settings.SetKind.{SetKind}
+use Rattle.rrc_settings.specs.declared.settings.SetKind.TheVariants as kinds
+use Rattle.rrc_settings.specs.Table.{is_one_of}
+use Rattle.rrc_settings.specs.Conflicts.{is_specific}
+use Rattle.dci_fields.specs.declared.formats.Format.{Format}
+use Rattle.dci_fields.specs.declared.formats.Format.TheVariants.{F00, F10, Order, F01, F11}
+use Rattle.dci_fields.specs.declared.names.FieldName.TheVariants as names
+use Rattle.dci_fields.specs.declared.rows.FieldRow.{FieldRow}
+use Rattle.dci_fields.specs.FieldLists.{width_of}
+use Rattle.dci_fields.specs.FittedRows.{order_of}
+use Rattle.coreset_map.specs.RegOrder.{reg_at, AreRegs}
+use Rattle.monitor_plan.specs.declared.watch.Watch.{Watch}
+
+-- whether a kind of set is for the formats of fallback
+abbrev pub is_for_fallback : SetKind → Bool
+is_for_fallback kinds.Common = true
+is_for_fallback kinds.Fallback = true
+is_for_fallback kinds.Specific = false
+
+-- whether a format fits a watch: its set is for the format, and the format has the watch's size there
+abbrev pub fits : Watch → Format → Bool
+fits w F00 = is_for_fallback w.kind && is_some w.up
+fits w F10 = is_for_fallback w.kind && is_some w.down
+fits w Order = is_for_fallback w.kind && is_some w.down
+fits w F01 = is_specific w.kind && is_some w.up
+fits w F11 = is_specific w.kind && is_some w.down
+
+-- the fields of a format at a watch
+abbrev pub list_of : Watch → Format → List FieldRow
+list_of w F00 = unwrap_or w.up []
+list_of w F10 = unwrap_or w.down []
+list_of w Order = order_of (unwrap_or w.down [])
+list_of w F01 = unwrap_or w.up []
+list_of w F11 = unwrap_or w.down []
+
+-- a list of fields begins with the identifier and the frequency assignment, which leave room for 27 bits: those of an order
+abbrev pub HasRoomForOrder : ℕ → List FieldRow → Type 0
+HasRoomForOrder size [] = ⊥
+HasRoomForOrder size (first ∷ []) = ⊥
+HasRoomForOrder size (first ∷ second ∷ rest) =
+    (first.name ≡ names.Identifier) × (second.name ≡ names.Fdra) × (first.width + second.width + 27 ≤ size)
+
+-- what each watch of a plan keeps
+pub record IsSound (w : Watch) : Type 0 where
+  pub level : is_one_of (1 ∷ 2 ∷ 4 ∷ 8 ∷ 16 ∷ []) w.level ≡ true
+  pub count : length w.regs.items ≡ 6 * w.level
+  pub order : AreRegs w.regs.items
+  pub least : 23 ≤ w.size
+  pub most : w.size ≤ 84
+  pub up : IfSome w.up (λ rows. width_of rows ≤ w.size)
+  pub down : IfSome w.down (λ rows. width_of rows ≤ w.size)
+  pub scramble : w.scramble < 2 ^ 31
+  pub fallback : is_for_fallback w.kind ≡ true → IfSome w.down (HasRoomForOrder w.size)
+
+-- the REGs of a watch are in the slot, on a carrier of so many blocks
+abbrev pub IsInside : ℕ → Watch → Type 0
+IsInside blocks w =
+    (j : ℕ) → j < length w.regs.items → (w.symbol + (reg_at w.regs.items j).symbol < 14) × ((reg_at w.regs.items j).block < blocks)
+
+-- a watch of nothing
+abbrev pub no_watch : Watch
+no_watch = record {
+  set = 0;
+  kind = kinds.Common;
+  symbol = 0;
+  level = 0;
+  candidate = 0;
+  size = 0;
+  up = None;
+  down = None;
+  regs = record { items = [] };
+  dmrs_id = 0;
+  scramble = 0;
+  rnti = 0;
+}
+
+-- watch i of a list
+abbrev pub watch_at : List Watch → ℕ → Watch
+watch_at watches i = slice_index_or watches i no_watch
+
+-- the watches of one set that a format fits have one list of its fields, and one size
+abbrev pub AreAlike : List Watch → Type 0
+AreAlike watches =
+    (i j : ℕ) (format : Format) → i < length watches → j < length watches → (watch_at watches i).set ≡ (watch_at watches j).set
+    → IsTrue (fits (watch_at watches i) format) → IsTrue (fits (watch_at watches j) format)
+    → (list_of (watch_at watches i) format ≡ list_of (watch_at watches j) format) × ((watch_at watches i).size ≡ (watch_at watches j).size)
+
+-- what the watches of a plan keep
+pub record IsPlan (watches : List Watch) : Type 0 where
+  pub sound : All IsSound watches
+  pub alike : AreAlike watches

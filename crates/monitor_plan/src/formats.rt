@@ -1,0 +1,95 @@
+//! The formats of a kind of set, their sizes and what decides their widths.
+ghost use Rattle.std.specs.Prelude.{◌≡◌};
+ghost use Rattle.monitor_plan.specs.Watch.{fits, is_for_fallback};
+ghost use Rattle.monitor_plan.specs.Watches.{down_format, down_size, up_format, up_size, widths_in};
+
+use crate::Watch;
+use dci_fields::{Format, Sizes, Widths};
+use rrc_settings::SetKind;
+
+impl Watch {
+    /// Whether a format fits the watch: its set is for the format, and the format has the watch's size there.
+    pub fn fits(&self, format: Format) -> bool
+        ensures { result ≡ fits self.now format }
+    {
+        match format {
+            Format::F00 => is_for_fallback(self.kind) && self.up.is_some(),
+            Format::F10 => is_for_fallback(self.kind) && self.down.is_some(),
+            Format::Order => is_for_fallback(self.kind) && self.down.is_some(),
+            Format::F01 => !is_for_fallback(self.kind) && self.up.is_some(),
+            Format::F11 => !is_for_fallback(self.kind) && self.down.is_some(),
+        }
+    }
+}
+
+/// Whether a kind of set is for the formats of fallback.
+fn is_for_fallback(kind: SetKind) -> bool
+    ensures { result ≡ is_for_fallback kind }
+{
+    match kind {
+        SetKind::Common => true,
+        SetKind::Fallback => true,
+        SetKind::Specific => false,
+    }
+}
+
+/// The uplink format of a kind of set.
+pub(crate) fn up_format(kind: SetKind) -> Format
+    ensures { result ≡ up_format kind }
+{
+    match kind {
+        SetKind::Common => Format::F00,
+        SetKind::Fallback => Format::F00,
+        SetKind::Specific => Format::F01,
+    }
+}
+
+/// The downlink format of a kind of set.
+pub(crate) fn down_format(kind: SetKind) -> Format
+    ensures { result ≡ down_format kind }
+{
+    match kind {
+        SetKind::Common => Format::F10,
+        SetKind::Fallback => Format::F10,
+        SetKind::Specific => Format::F11,
+    }
+}
+
+/// The size of the uplink format in a kind of set.
+pub(crate) fn up_size(sizes: &Sizes, kind: SetKind) -> Option<u16>
+    ensures { result ≡ up_size sizes.now kind }
+{
+    match kind {
+        SetKind::Common => sizes.common,
+        SetKind::Fallback => sizes.fallback,
+        SetKind::Specific => sizes.up,
+    }
+}
+
+/// The size of the downlink format in a kind of set.
+pub(crate) fn down_size(sizes: &Sizes, kind: SetKind) -> Option<u16>
+    ensures { result ≡ down_size sizes.now kind }
+{
+    match kind {
+        SetKind::Common => sizes.common,
+        SetKind::Fallback => sizes.fallback,
+        SetKind::Specific => sizes.down,
+    }
+}
+
+/// The bandwidth part that decides the widths in a kind of set.
+pub(crate) fn widths_in(sizes: &Sizes, kind: SetKind) -> Widths
+    ensures { result ≡ widths_in sizes.now kind }
+{
+    match kind {
+        SetKind::Common => Widths::Common,
+        SetKind::Fallback => {
+            if sizes.step4 {
+                Widths::Common
+            } else {
+                Widths::Own
+            }
+        }
+        SetKind::Specific => Widths::Own,
+    }
+}

@@ -1,0 +1,15 @@
+//! The plan of a handset in a slot: where it looks for downlink control information, and for which formats (3GPP TS 38.213, 10.1).
+#![tactic(auto)]
+
+mod formats;
+mod lists;
+mod making;
+mod plan;
+mod same;
+mod watch;
+
+pub use plan::{Plan, PlanFault};
+pub use watch::Watch;
+
+#[cfg(test)]
+mod tests;
