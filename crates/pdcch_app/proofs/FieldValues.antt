@@ -4,10 +4,11 @@ use Rattle.std.specs.List.{range_with_len, flat_map, find, Contains}
 use Rattle.std.proofs.lemmas.Bool.{and_parts, ltb-true}
 use Rattle.std.proofs.lemmas.List.{length-map, get_or-map}
 use Rattle.std.proofs.lemmas.List.Elements.{Contains-append_left, Contains-append_right}
-use Rattle.pdcch_app.specs.declared.fields.formats.Format.{Format}
-use Rattle.pdcch_app.specs.declared.fields.rows.FieldRow.{FieldRow}
-use Rattle.pdcch_app.specs.PayloadOfRows.{are_fitting, payload_of, all_values}
-use Rattle.pdcch_app.proofs.FieldPayloads.{payload_parts}
+use Rattle.dci_fields.specs.declared.formats.Format.{Format}
+use Rattle.dci_fields.specs.declared.rows.FieldRow.{FieldRow}
+use Rattle.dci_fields.specs.Payloads.{are_fitting, payload_of}
+use Rattle.dci_fields.proofs.PayloadsOfRows.{payload_parts}
+use Rattle.pdcch_app.specs.AllValues.{all_values}
 
 mapped : (f : List ℕ → List ℕ) (xs : List (List ℕ)) (x : List ℕ) → Contains xs x → Contains (map f xs) (f x)
 mapped f xs x h = (h.0, omega (arith, length-map xs f, h.1), get_or-map f xs h.0 x (f x) h.1 ∙ ap f h.2)

@@ -1,45 +1,46 @@
--- What a grid carries at the one watch of the first cell, and what it spells there: one payload at most, and one spelling.
-use Rattle.std.proofs.Common.{◌≡◌, ◌↔◌, ℕ, ◌*◌, ◌<◌, ◌≤◌, Bool, true, false, cond, List, [], ◌∷◌, Option, Some, None, MatchOption, length, map, get_or, option_map, refl, ap, sym, subst, ◌∙◌, arith}
+-- What a grid carries at a watch, and what it spells there: one payload at most, and one spelling.
+use Rattle.std.proofs.Common.{◌≡◌, ◌↔◌, ℕ, ◌+◌, ◌*◌, ◌<◌, ◌≤◌, Bool, true, false, cond, ◌&&◌, List, [], ◌∷◌, Option, Some, None, MatchOption, length, map, get_or, option_map, refl, ap, sym, subst, ◌∙◌, arith}
 use Rattle.std.specs.List.{range_with_len, flat_map, find, list_all, Contains}
+use Rattle.std.proofs.lemmas.Bool.{and_parts}
 use Rattle.std.proofs.lemmas.List.{length-map, get_or-map}
 use Rattle.std.proofs.lemmas.List.Elements.{Contains-append_left, Contains-append_right}
 use Rattle.std.proofs.lemmas.List.FromFn.{length-range_with_len, get_or-range_with_len}
 use Rattle.std.proofs.lemmas.List.Sums.{AllPass-from_list_all, list_all-from_AllPass}
+use Rattle.coreset_map.specs.declared.places.Reg.{Reg}
 use Rattle.crc_mask.specs.Parity.{masked}
 use Rattle.crc_mask.proofs.Masks.{length-masked, masked_once}
+use Rattle.dci_fields.specs.declared.formats.Format.{Format}
+use Rattle.dci_fields.specs.declared.formats.Format.TheVariants.{F00, F10, Order, F01, F11}
+use Rattle.dci_fields.specs.declared.rows.FieldRow.{FieldRow}
+use Rattle.dci_fields.specs.declared.values.FieldValue.{FieldValue}
+use Rattle.dci_fields.specs.FieldLists.{width_of, BeginsWithIdentifier}
+use Rattle.dci_fields.specs.FittedRows.{order_of}
+use Rattle.dci_fields.specs.Payloads.{payload_of, Carries}
+use Rattle.dci_fields.proofs.FormatsApart.{is_downlink, payload-down, order_apart}
+use Rattle.dci_fields.proofs.PayloadsOfRows.{length-payload_of, values_once}
+use Rattle.dmrs_qpsk.specs.Held.{Holds}
+use Rattle.dmrs_qpsk.specs.PointsOnGrid.{image_of, AreInside}
+use Rattle.dmrs_qpsk.proofs.ImagesOnGrid.{image_within}
+use Rattle.dmrs_qpsk.proofs.Takes.{one_held}
+use Rattle.polar_chain.specs.CodeOfBlock.{code_by}
+use Rattle.polar_chain.specs.CodeShape.{CodeShape, IsByTables}
+use Rattle.polar_chain.specs.Decoding.{IsBlockBy, IsBlockOf}
+use Rattle.polar_chain.proofs.CodesByTables.{block_by-tables, block_of-tables, code_by_once, length-code_by}
 use Rattle.slot_grid.specs.declared.places.Point.{Point}
 use Rattle.slot_grid.specs.declared.places.Point.TheVariants.{Empty, P00, P01, P10, P11}
 use Rattle.slot_grid.specs.Grid.{GridValue, point_at}
 use Rattle.slot_grid.specs.Image.{Image, Agrees, IsWithin}
-use Rattle.pdcch_app.specs.declared.fields.formats.Format.{Format}
-use Rattle.pdcch_app.specs.declared.fields.formats.Format.TheVariants.{F00, F10, Order}
-use Rattle.pdcch_app.specs.declared.fields.rows.FieldValue.{FieldValue}
-use Rattle.pdcch_app.specs.declared.first_cell.FirstCell.{FirstCell}
-use Rattle.pdcch_app.specs.declared.resources.Reg.{Reg}
-use Rattle.pdcch_app.specs.AscendingTable.{ascending}
+use Rattle.table_files.specs.declared.tables.Tables.{Tables}
+use Rattle.pdcch_app.specs.declared.watch.Watch.{Watch}
+use Rattle.pdcch_app.specs.AllValues.{all_values}
 use Rattle.pdcch_app.specs.BlockImage.{block_image}
-use Rattle.pdcch_app.specs.CodeOfBlock.{code_by}
-use Rattle.pdcch_app.specs.ControlResources.{candidate_regs}
-use Rattle.pdcch_app.specs.Decoding.{IsCodeOf}
 use Rattle.pdcch_app.specs.Entry.{Entry, entry_of}
-use Rattle.pdcch_app.specs.Fields.{rows_of}
-use Rattle.pdcch_app.specs.FirstResources.{eight_groups}
-use Rattle.pdcch_app.specs.Hearing.{IsCarried, IsReadAs, Spells, FindsWhatIsSpelled}
-use Rattle.pdcch_app.specs.Held.{Holds}
-use Rattle.pdcch_app.specs.PayloadOfRows.{payload_of, all_values, Carries}
-use Rattle.pdcch_app.specs.PointsOnGrid.{image_of, AreInside}
-use Rattle.pdcch_app.specs.Scrambling.{scrambled, scramble_start}
+use Rattle.pdcch_app.specs.Hearing.{AreTables, IsCarried, IsReadAs, Spells, FindsWhatIsSpelled}
+use Rattle.pdcch_app.specs.Scrambling.{scrambled}
 use Rattle.pdcch_app.specs.Spelling.{Spelling, all_spellings, is_point, fits_there, agrees, carries, spells, spelled}
-use Rattle.pdcch_app.specs.Watch.{Watch}
-use Rattle.pdcch_app.specs.Written.{first_watch}
-use Rattle.pdcch_app.proofs.CodingOfBlock.{length-code}
-use Rattle.pdcch_app.proofs.DecodingOfBlock.{block_of_once}
-use Rattle.pdcch_app.proofs.FieldPayloads.{length-payload_39, values_once, one_format}
+use Rattle.pdcch_app.specs.Watches.{IsWatch, formats, is_monitored, list_of}
 use Rattle.pdcch_app.proofs.FieldValues.{payload_among, find_only}
-use Rattle.pdcch_app.proofs.FirstRegs.{ListsFirst, first_lists}
-use Rattle.pdcch_app.proofs.ImagesOnGrid.{image_within}
 use Rattle.pdcch_app.proofs.Scrambles.{length-scrambled, scrambled_twice, scrambled_once}
-use Rattle.pdcch_app.proofs.Takes.{one_held}
 
 -- a test that each number below n passes
 all_below : (test : ℕ → Bool) (n : ℕ) → list_all test (range_with_len 0 n) ≡ true → (i : ℕ) → i < n → test i ≡ true
@@ -123,207 +124,243 @@ agrees_from grid image h =
     below_all (λ s. list_all (λ c. fits_there (image s c) (point_at grid s c)) (range_with_len 0 (12 * grid.blocks))) 14
     (λ s l. below_all (λ c. fits_there (image s c) (point_at grid s c)) (12 * grid.blocks) (λ c m. fits_from (image s c) (point_at grid s c) (h s c)))
 
--- the REGs of the watch
-abbrev regs : List Reg
-regs = candidate_regs eight_groups 0 8
+-- how many bits a block has at a watch, and how many are sent
+abbrev pub block_len : Watch → ℕ
+block_len w = w.size + 24
 
-lists : ListsFirst regs
-lists = subst ListsFirst first_lists.regs first_lists
+abbrev pub sent_len : Watch → ℕ
+sent_len w = 108 * w.level
 
-inside : (grid : GridValue) → 48 ≤ grid.blocks → AreInside grid 0 regs
-inside grid h j l =
-    let place = lists.places j l in
-    (omega (arith, place.0), omega (arith, h, place.1))
+-- the code of a block at a watch
+abbrev pub code : Tables → Watch → List Bool → List Bool
+code tables w = code_by tables.reliability tables.input_order (block_len w) (sent_len w)
+
+-- received bits are the code of a block
+abbrev pub IsCode : Tables → Watch → List Bool → List Bool → Type 0
+IsCode tables w = IsBlockBy tables.reliability tables.input_order (block_len w) (sent_len w)
 
 -- the bits that a block is sent in
-abbrev sent : FirstCell → List Bool → List Bool
-sent cell block = scrambled (scramble_start 0 cell.cell) (code_by (ascending 1024) (ascending 164) 63 864 block)
+abbrev sent : Tables → Watch → List Bool → List Bool
+sent tables w block = scrambled w.scramble (code tables w block)
 
-image_is : (slot : ℕ) (cell : FirstCell) (block : List Bool)
-    → block_image (ascending 1024) (ascending 164) slot (first_watch cell) block ≡ image_of slot 0 cell.cell regs (sent cell block)
+image_is : (tables : Tables) (slot : ℕ) (w : Watch) (block : List Bool)
+    → block_image tables slot w block ≡ image_of slot w.symbol w.dmrs_id w.regs.items (sent tables w block)
 unfolding block_image
-image_is slot cell block = refl
+image_is tables slot w block = refl
 
-length-sent : (cell : FirstCell) (block : List Bool) → length (sent cell block) ≡ 18 * length regs
-length-sent cell block =
-    length-scrambled (scramble_start 0 cell.cell) (code_by (ascending 1024) (ascending 164) 63 864 block)
-    ∙ length-code block
-    ∙ omega (arith, lists.size)
+length-sent : (tables : Tables) (w : Watch) (block : List Bool) → IsWatch w → length (sent tables w block) ≡ 18 * length w.regs.items
+length-sent tables w block keeps =
+    let a = length-scrambled w.scramble (code tables w block) in
+    let b = length-code_by tables.reliability tables.input_order (block_len w) (sent_len w) block in
+    a ∙ b ∙ omega (arith, keeps.count)
 
 -- a grid that carries a payload holds the bits that it is sent in
-pub holds_sent : (grid : GridValue) (cell : FirstCell) (payload : List Bool) → IsCarried grid cell payload
-    → Holds grid 0 cell.cell regs (sent cell (masked payload cell.rnti))
-holds_sent grid cell payload h =
-    (length-sent cell (masked payload cell.rnti), subst (Agrees grid) (image_is grid.slot cell (masked payload cell.rnti)) h.1)
+pub holds_sent : (tables : Tables) (grid : GridValue) (w : Watch) (payload : List Bool) → IsWatch w → IsCarried tables grid w payload
+    → Holds grid w.symbol w.dmrs_id w.regs.items (sent tables w (masked payload w.rnti))
+holds_sent tables grid w payload keeps h =
+    (length-sent tables w (masked payload w.rnti) keeps, subst (Agrees grid) (image_is tables grid.slot w (masked payload w.rnti)) h.1)
 
-length_63 : (payload : List Bool) (rnti : ℕ) → length payload ≡ 39 → length (masked payload rnti) ≡ 63
-length_63 payload rnti e = omega (arith, length-masked payload rnti, e)
+length_block : (w : Watch) (payload : List Bool) → length payload ≡ w.size → length (masked payload w.rnti) ≡ block_len w
+length_block w payload e = length-masked payload w.rnti ∙ omega (arith, e)
 
 -- the bits that it holds are, without their scrambling, the code of the masked payload
-pub code_held : (grid : GridValue) (cell : FirstCell) (bits payload : List Bool) → Holds grid 0 cell.cell regs bits → IsCarried grid cell payload
-    → IsCodeOf (ascending 1024) (ascending 164) 63 864 (scrambled (scramble_start 0 cell.cell) bits) (masked payload cell.rnti)
-code_held grid cell bits payload h g =
-    let start = scramble_start 0 cell.cell in
-    let code = code_by (ascending 1024) (ascending 164) 63 864 (masked payload cell.rnti) in
-    let same : scrambled start code ≡ bits = one_held grid 0 cell.cell regs (scrambled start code) bits lists.order (holds_sent grid cell payload g) h in
-    (length_63 payload cell.rnti g.0, sym (scrambled_twice start code) ∙ ap (scrambled start) same)
+pub code_held : (tables : Tables) (grid : GridValue) (w : Watch) (bits payload : List Bool) → IsWatch w
+    → Holds grid w.symbol w.dmrs_id w.regs.items bits → IsCarried tables grid w payload
+    → IsCode tables w (scrambled w.scramble bits) (masked payload w.rnti)
+code_held tables grid w bits payload keeps h g =
+    let same : sent tables w (masked payload w.rnti) ≡ bits =
+    one_held grid w.symbol w.dmrs_id w.regs.items (sent tables w (masked payload w.rnti)) bits keeps.regs (holds_sent tables grid w payload keeps g) h
+    in
+    (length_block w payload g.0, sym (scrambled_twice w.scramble (code tables w (masked payload w.rnti))) ∙ ap (scrambled w.scramble) same)
 
 -- where they are the code of a masked payload, the grid carries it
-pub carried_from : (grid : GridValue) (cell : FirstCell) (bits block payload : List Bool) → Holds grid 0 cell.cell regs bits
-    → IsCodeOf (ascending 1024) (ascending 164) 63 864 (scrambled (scramble_start 0 cell.cell) bits) block → masked payload cell.rnti ≡ block
-    → IsCarried grid cell payload
-carried_from grid cell bits block payload h g e =
-    let start = scramble_start 0 cell.cell in
-    let same : bits ≡ sent cell (masked payload cell.rnti) =
-    sym (scrambled_twice start bits) ∙ ap (scrambled start) (sym g.1) ∙ ap (sent cell) (sym e)
+pub carried_from : (tables : Tables) (grid : GridValue) (w : Watch) (bits block payload : List Bool)
+    → Holds grid w.symbol w.dmrs_id w.regs.items bits → IsCode tables w (scrambled w.scramble bits) block → masked payload w.rnti ≡ block
+    → IsCarried tables grid w payload
+carried_from tables grid w bits block payload h g e =
+    let same : bits ≡ sent tables w (masked payload w.rnti) =
+    sym (scrambled_twice w.scramble bits) ∙ ap (scrambled w.scramble) (sym g.1) ∙ ap (sent tables w) (sym e)
     in
-    let long : length (masked payload cell.rnti) ≡ 63 = ap length e ∙ g.0 in
-    let P : List Bool → Type 0 = λ b. Agrees grid (image_of grid.slot 0 cell.cell regs b) in (
-      omega (arith, long, length-masked payload cell.rnti),
-      subst (Agrees grid) (sym (image_is grid.slot cell (masked payload cell.rnti))) (subst P same h.1),
+    let long : length (masked payload w.rnti) ≡ block_len w = ap length e ∙ g.0 in
+    let P : List Bool → Type 0 = λ b. Agrees grid (image_of grid.slot w.symbol w.dmrs_id w.regs.items b) in (
+      omega (arith, long, length-masked payload w.rnti),
+      subst (Agrees grid) (sym (image_is tables grid.slot w (masked payload w.rnti))) (subst P same h.1),
     )
 
+-- no two blocks have one code
+one_block : (tables : Tables) (w : Watch) (c other : List Bool) → AreTables tables → IsWatch w → length c ≡ block_len w → length other ≡ block_len w
+    → code tables w c ≡ code tables w other → c ≡ other
+one_block tables w c other legal keeps h g e =
+    code_by_once tables.reliability tables.input_order (block_len w) (sent_len w) c other legal.0 legal.1 (omega (arith, keeps.short)) keeps.enough h g e
+
 -- a grid carries one payload at most
-pub carried_once : (grid : GridValue) (cell : FirstCell) (payload other : List Bool) → IsCarried grid cell payload → IsCarried grid cell other
-    → payload ≡ other
-carried_once grid cell payload other h g =
-    let a = masked payload cell.rnti in
-    let b = masked other cell.rnti in
-    let code : List Bool → List Bool = code_by (ascending 1024) (ascending 164) 63 864 in
-    let same : sent cell a ≡ sent cell b =
-    one_held grid 0 cell.cell regs (sent cell a) (sent cell b) lists.order (holds_sent grid cell payload h) (holds_sent grid cell other g)
+pub carried_once : (tables : Tables) (grid : GridValue) (w : Watch) (payload other : List Bool) → AreTables tables → IsWatch w
+    → IsCarried tables grid w payload → IsCarried tables grid w other → payload ≡ other
+carried_once tables grid w payload other legal keeps h g =
+    let a = masked payload w.rnti in
+    let b = masked other w.rnti in
+    let same : sent tables w a ≡ sent tables w b =
+    one_held grid w.symbol w.dmrs_id w.regs.items (sent tables w a) (sent tables w b) keeps.regs (holds_sent tables grid w payload keeps h)
+    (holds_sent tables grid w other keeps g)
     in
-    masked_once payload other cell.rnti
-    (block_of_once a b (length_63 payload cell.rnti h.0) (length_63 other cell.rnti g.0)
-    (scrambled_once (scramble_start 0 cell.cell) (code a) (code b) same))
-
--- the same of a list of REGs that is the watch's
-pub held_on : (grid : GridValue) (cell : FirstCell) (items : List Reg) (bits : List Bool) → items ≡ regs → Holds grid 0 cell.cell items bits
-    → Holds grid 0 cell.cell regs bits
-held_on grid cell items bits e h =
-    let P : List Reg → Type 0 = λ r. Holds grid 0 cell.cell r bits in subst P e h
-
-pub held_from : (grid : GridValue) (cell : FirstCell) (items : List Reg) (bits : List Bool) → items ≡ regs → Holds grid 0 cell.cell regs bits
-    → Holds grid 0 cell.cell items bits
-held_from grid cell items bits e h =
-    let P : List Reg → Type 0 = λ r. Holds grid 0 cell.cell r bits in subst P (sym e) h
-
--- what is decoded is the code of the bits without their scrambling
-pub code_on : (cell : FirstCell) (start : ℕ) (bits received block : List Bool) → start ≡ scramble_start 0 cell.cell → received ≡ scrambled start bits
-    → IsCodeOf (ascending 1024) (ascending 164) 63 864 received block
-    → IsCodeOf (ascending 1024) (ascending 164) 63 864 (scrambled (scramble_start 0 cell.cell) bits) block
-code_on cell start bits received block e f h =
-    let P : List Bool → Type 0 = λ b. IsCodeOf (ascending 1024) (ascending 164) 63 864 b block in
-    subst P (f ∙ ap (λ (n : ℕ). scrambled n bits) e) h
-
-pub code_back : (cell : FirstCell) (start : ℕ) (bits received block : List Bool) → start ≡ scramble_start 0 cell.cell → received ≡ scrambled start bits
-    → IsCodeOf (ascending 1024) (ascending 164) 63 864 (scrambled (scramble_start 0 cell.cell) bits) block
-    → IsCodeOf (ascending 1024) (ascending 164) 63 864 received block
-code_back cell start bits received block e f h =
-    let P : List Bool → Type 0 = λ b. IsCodeOf (ascending 1024) (ascending 164) 63 864 b block in
-    subst P (sym (f ∙ ap (λ (n : ℕ). scrambled n bits) e)) h
+    masked_once payload other w.rnti
+    (one_block tables w a b legal keeps (length_block w payload h.0) (length_block w other g.0)
+    (scrambled_once w.scramble (code tables w a) (code tables w b) same))
 
 -- no bits, no payload
-pub nothing_held : (grid : GridValue) (cell : FirstCell) → ((bits : List Bool) → Holds grid 0 cell.cell regs bits → ⊥)
-    → (payload : List Bool) → (None ≡ Some payload) ↔ IsCarried grid cell payload
-nothing_held grid cell none payload = (
+pub nothing_held : (tables : Tables) (grid : GridValue) (w : Watch) → IsWatch w
+    → ((bits : List Bool) → Holds grid w.symbol w.dmrs_id w.regs.items bits → ⊥)
+    → (payload : List Bool) → (None ≡ Some payload) ↔ IsCarried tables grid w payload
+nothing_held tables grid w keeps none payload = (
   (λ e. absurd (none_some payload e)),
-  (λ h. absurd (none (sent cell (masked payload cell.rnti)) (holds_sent grid cell payload h))),
+  (λ h. absurd (none (sent tables w (masked payload w.rnti)) (holds_sent tables grid w payload keeps h))),
 )
 
 -- bits of no code, no payload
-pub nothing_decoded : (grid : GridValue) (cell : FirstCell) (bits : List Bool) → Holds grid 0 cell.cell regs bits
-    → ((block : List Bool) → IsCodeOf (ascending 1024) (ascending 164) 63 864 (scrambled (scramble_start 0 cell.cell) bits) block → ⊥)
-    → (payload : List Bool) → (None ≡ Some payload) ↔ IsCarried grid cell payload
-nothing_decoded grid cell bits h none payload = (
+pub nothing_decoded : (tables : Tables) (grid : GridValue) (w : Watch) (bits : List Bool) → IsWatch w
+    → Holds grid w.symbol w.dmrs_id w.regs.items bits
+    → ((block : List Bool) → IsCode tables w (scrambled w.scramble bits) block → ⊥)
+    → (payload : List Bool) → (None ≡ Some payload) ↔ IsCarried tables grid w payload
+nothing_decoded tables grid w bits keeps h none payload = (
   (λ e. absurd (none_some payload e)),
-  (λ g. absurd (none (masked payload cell.rnti) (code_held grid cell bits payload h g))),
+  (λ g. absurd (none (masked payload w.rnti) (code_held tables grid w bits payload keeps h g))),
 )
 
 -- the payload whose masked parity ends the block
-pub one_stripped : (grid : GridValue) (cell : FirstCell) (bits block : List Bool) (result : Option (List Bool)) → Holds grid 0 cell.cell regs bits
-    → IsCodeOf (ascending 1024) (ascending 164) 63 864 (scrambled (scramble_start 0 cell.cell) bits) block
-    → ((p : List Bool) → (result ≡ Some p) ↔ (masked p cell.rnti ≡ block))
-    → (payload : List Bool) → (result ≡ Some payload) ↔ IsCarried grid cell payload
-one_stripped grid cell bits block result h g strips payload = (
-  (λ e. carried_from grid cell bits block payload h g ((strips payload).0 e)),
+pub one_stripped : (tables : Tables) (grid : GridValue) (w : Watch) (bits block : List Bool) (result : Option (List Bool)) → AreTables tables
+    → IsWatch w → Holds grid w.symbol w.dmrs_id w.regs.items bits → IsCode tables w (scrambled w.scramble bits) block
+    → ((p : List Bool) → (result ≡ Some p) ↔ (masked p w.rnti ≡ block))
+    → (payload : List Bool) → (result ≡ Some payload) ↔ IsCarried tables grid w payload
+one_stripped tables grid w bits block result legal keeps h g strips payload = (
+  (λ e. carried_from tables grid w bits block payload h g ((strips payload).0 e)),
   (λ k.
-      let code = code_held grid cell bits payload h k in
-      (strips payload).1 (block_of_once (masked payload cell.rnti) block code.0 g.0 (code.1 ∙ sym g.1))),
+      let c = code_held tables grid w bits payload keeps h k in
+      (strips payload).1 (one_block tables w (masked payload w.rnti) block legal keeps c.0 g.0 (c.1 ∙ sym g.1))),
 )
 
 -- a watch's image is on the grid
-image_on : (grid : GridValue) (cell : FirstCell) (block : List Bool) → 48 ≤ grid.blocks
-    → IsWithin grid (block_image (ascending 1024) (ascending 164) grid.slot (first_watch cell) block)
-image_on grid cell block h =
-    subst (IsWithin grid) (sym (image_is grid.slot cell block)) (image_within grid grid.slot 0 cell.cell regs (sent cell block) (inside grid h))
+image_on : (tables : Tables) (grid : GridValue) (w : Watch) (block : List Bool) → AreInside grid w.symbol w.regs.items
+    → IsWithin grid (block_image tables grid.slot w block)
+image_on tables grid w block inside =
+    subst (IsWithin grid) (sym (image_is tables grid.slot w block))
+    (image_within grid grid.slot w.symbol w.dmrs_id w.regs.items (sent tables w block) inside)
 
 -- a payload that a grid carries, by the test
-record CarriesOne (reliability input_order : List ℕ) (grid : GridValue) (watch : Watch) (found : Option (List Bool)) : Type 0 where
+record CarriesOne (tables : Tables) (grid : GridValue) (watch : Watch) (found : Option (List Bool)) : Type 0 where
   payload : List Bool
   is : found ≡ Some payload
-  agree : agrees grid (block_image reliability input_order grid.slot watch (masked payload watch.rnti)) ≡ true
+  agree : agrees grid (block_image tables grid.slot watch (masked payload watch.rnti)) ≡ true
 
-carries_one : (reliability input_order : List ℕ) (grid : GridValue) (watch : Watch) (found : Option (List Bool))
-    → carries reliability input_order grid watch found ≡ true → CarriesOne reliability input_order grid watch found
-carries_one reliability input_order grid watch None h = absurd (let f : ⊥ = cc in f)
-carries_one reliability input_order grid watch (Some payload) h = record { payload = payload; is = refl; agree = h }
+carries_one : (tables : Tables) (grid : GridValue) (watch : Watch) (found : Option (List Bool))
+    → carries tables grid watch found ≡ true → CarriesOne tables grid watch found
+carries_one tables grid watch None h = absurd (let f : ⊥ = cc in f)
+carries_one tables grid watch (Some payload) h = record { payload = payload; is = refl; agree = h }
 
 -- the test of spelling tells whether the grid spells
-pub spells_to : (grid : GridValue) (cell : FirstCell) (s : Spelling) → 48 ≤ grid.blocks
-    → spells (ascending 1024) (ascending 164) 11 grid (first_watch cell) s ≡ true → Spells grid cell s
-spells_to grid cell s h e =
-    let one = carries_one (ascending 1024) (ascending 164) grid (first_watch cell) (payload_of (rows_of s.format 11) s.format s.values 39) e in
+pub spells_to : (tables : Tables) (grid : GridValue) (w : Watch) (s : Spelling) → AreInside grid w.symbol w.regs.items
+    → spells tables grid w s ≡ true → Spells tables grid w s
+spells_to tables grid w s inside e =
+    let parts = and_parts (is_monitored s.format) (carries tables grid w (payload_of (list_of w s.format) s.format s.values w.size)) e in
+    let one = carries_one tables grid w (payload_of (list_of w s.format) s.format s.values w.size) parts.1 in
     record {
+      monitored = parts.0;
       payload = one.payload;
       packs = one.is;
-      agrees = agrees_to grid (block_image (ascending 1024) (ascending 164) grid.slot (first_watch cell) (masked one.payload cell.rnti))
-          (image_on grid cell (masked one.payload cell.rnti) h) one.agree;
+      agrees = agrees_to grid (block_image tables grid.slot w (masked one.payload w.rnti)) (image_on tables grid w (masked one.payload w.rnti) inside) one.agree;
     }
 
-pub spells_from : (grid : GridValue) (cell : FirstCell) (s : Spelling) → Spells grid cell s
-    → spells (ascending 1024) (ascending 164) 11 grid (first_watch cell) s ≡ true
-spells_from grid cell s h =
-    ap (carries (ascending 1024) (ascending 164) grid (first_watch cell)) h.packs
-    ∙ agrees_from grid (block_image (ascending 1024) (ascending 164) grid.slot (first_watch cell) (masked h.payload cell.rnti)) h.agrees
+both : (a b : Bool) → a ≡ true → b ≡ true → (a && b) ≡ true
+both true true h k = refl
+both true false h k = k
+both false b h k = h
+
+pub spells_from : (tables : Tables) (grid : GridValue) (w : Watch) (s : Spelling) → Spells tables grid w s → spells tables grid w s ≡ true
+spells_from tables grid w s h =
+    both (is_monitored s.format) (carries tables grid w (payload_of (list_of w s.format) s.format s.values w.size)) h.monitored
+    (ap (carries tables grid w) h.packs ∙ agrees_from grid (block_image tables grid.slot w (masked h.payload w.rnti)) h.agrees)
+
+-- each list of a format that is monitored is no wider than the size, and begins with the identifier
+list_width : (w : Watch) (f : Format) → IsWatch w → is_monitored f ≡ true → width_of (list_of w f) ≤ w.size
+list_width w F00 keeps h = keeps.up_width
+list_width w F10 keeps h = keeps.down_width
+list_width w Order keeps h = keeps.order_width
+list_width w F01 keeps h = absurd (let f : ⊥ = cc in f)
+list_width w F11 keeps h = absurd (let f : ⊥ = cc in f)
+
+list_begins : (w : Watch) (f : Format) → IsWatch w → is_monitored f ≡ true → BeginsWithIdentifier (list_of w f)
+list_begins w F00 keeps h = keeps.up_begins
+list_begins w F10 keeps h = keeps.down_begins
+list_begins w Order keeps h = keeps.order_begins
+list_begins w F01 keeps h = absurd (let f : ⊥ = cc in f)
+list_begins w F11 keeps h = absurd (let f : ⊥ = cc in f)
 
 -- the payload of what is spelled is carried
-pub carried_of : (grid : GridValue) (cell : FirstCell) (s : Spelling) (h : Spells grid cell s) → IsCarried grid cell h.payload
-carried_of grid cell s h = (length-payload_39 s.format s.values h.payload h.packs, h.agrees)
+pub carried_of : (tables : Tables) (grid : GridValue) (w : Watch) (s : Spelling) → IsWatch w → (h : Spells tables grid w s) → IsCarried tables grid w h.payload
+carried_of tables grid w s keeps h =
+    (length-payload_of (list_of w s.format) s.format s.values w.size h.payload (list_width w s.format keeps h.monitored) h.packs, h.agrees)
+
+-- a payload is of one format at most
+same_way : (w : Watch) (f g : Format) (values others : List ℕ) (payload : List Bool) → IsWatch w → is_monitored f ≡ true → is_monitored g ≡ true
+    → payload_of (list_of w f) f values w.size ≡ Some payload → payload_of (list_of w g) g others w.size ≡ Some payload → is_downlink f ≡ is_downlink g
+same_way w f g values others payload keeps h k e i =
+    sym (payload-down (list_of w f) f values w.size payload (list_begins w f keeps h) e) ∙ payload-down (list_of w g) g others w.size payload (list_begins w g keeps k) i
+
+one_format : (w : Watch) (f g : Format) (values others : List ℕ) (payload : List Bool) → IsWatch w → is_monitored f ≡ true → is_monitored g ≡ true
+    → payload_of (list_of w f) f values w.size ≡ Some payload → payload_of (list_of w g) g others w.size ≡ Some payload → f ≡ g
+one_format w F00 F00 values others payload keeps h k e i = refl
+one_format w F00 F10 values others payload keeps h k e i = let s = same_way w F00 F10 values others payload keeps h k e i in absurd (let f : ⊥ = cc in f)
+one_format w F00 Order values others payload keeps h k e i = let s = same_way w F00 Order values others payload keeps h k e i in absurd (let f : ⊥ = cc in f)
+one_format w F10 F00 values others payload keeps h k e i = let s = same_way w F10 F00 values others payload keeps h k e i in absurd (let f : ⊥ = cc in f)
+one_format w F10 F10 values others payload keeps h k e i = refl
+one_format w F10 Order values others payload keeps h k e i = absurd (order_apart w.down values others w.size w.size payload keeps.down_fdra e i)
+one_format w Order F00 values others payload keeps h k e i = let s = same_way w Order F00 values others payload keeps h k e i in absurd (let f : ⊥ = cc in f)
+one_format w Order F10 values others payload keeps h k e i = absurd (order_apart w.down others values w.size w.size payload keeps.down_fdra i e)
+one_format w Order Order values others payload keeps h k e i = refl
+one_format w F01 g values others payload keeps h k e i = absurd (let f : ⊥ = cc in f)
+one_format w F11 g values others payload keeps h k e i = absurd (let f : ⊥ = cc in f)
+one_format w F00 F01 values others payload keeps h k e i = absurd (let f : ⊥ = cc in f)
+one_format w F00 F11 values others payload keeps h k e i = absurd (let f : ⊥ = cc in f)
+one_format w F10 F01 values others payload keeps h k e i = absurd (let f : ⊥ = cc in f)
+one_format w F10 F11 values others payload keeps h k e i = absurd (let f : ⊥ = cc in f)
+one_format w Order F01 values others payload keeps h k e i = absurd (let f : ⊥ = cc in f)
+one_format w Order F11 values others payload keeps h k e i = absurd (let f : ⊥ = cc in f)
 
 abbrev spelling_of : Format → List ℕ → Spelling
 spelling_of format values = record { format = format; values = values }
 
 -- a grid spells one thing at most
-pub spells_once : (grid : GridValue) (cell : FirstCell) (s other : Spelling) → Spells grid cell s → Spells grid cell other → s ≡ other
-spells_once grid cell s other h g =
-    let same : g.payload ≡ h.payload = carried_once grid cell g.payload h.payload (carried_of grid cell other g) (carried_of grid cell s h) in
-    let packs : payload_of (rows_of other.format 11) other.format other.values 39 ≡ Some h.payload = g.packs ∙ ap (λ (p : List Bool). Some p) same in
-    ap (λ (f : Format). spelling_of f s.values) (one_format 11 s.format other.format s.values other.values 39 39 h.payload h.packs packs)
+pub spells_once : (tables : Tables) (grid : GridValue) (w : Watch) (s other : Spelling) → AreTables tables → IsWatch w → Spells tables grid w s
+    → Spells tables grid w other → s ≡ other
+spells_once tables grid w s other legal keeps h g =
+    let same : g.payload ≡ h.payload = carried_once tables grid w g.payload h.payload legal keeps (carried_of tables grid w other keeps g) (carried_of tables grid w s keeps h) in
+    let packs : payload_of (list_of w other.format) other.format other.values w.size ≡ Some h.payload = g.packs ∙ ap (λ (p : List Bool). Some p) same in
+    let one : s.format ≡ other.format = one_format w s.format other.format s.values other.values h.payload keeps h.monitored g.monitored h.packs packs in
+    ap (λ (f : Format). spelling_of f s.values) one
     ∙ ap (spelling_of other.format)
-    (values_once (rows_of s.format 11) s.format other.format s.values other.values 39 39 h.payload h.packs
-    (let P : Format → Type 0 = λ f. payload_of (rows_of f 11) other.format other.values 39 ≡ Some h.payload in
-    subst P (sym (one_format 11 s.format other.format s.values other.values 39 39 h.payload h.packs packs)) packs))
+    (values_once (list_of w s.format) s.format other.format s.values other.values w.size w.size h.payload h.packs
+    (let P : Format → Type 0 = λ f. payload_of (list_of w f) other.format other.values w.size ≡ Some h.payload in subst P (sym one) packs))
 
 mapped : {X Y : Type 0} (f : X → Y) (xs : List X) (x : X) → Contains xs x → Contains (map f xs) (f x)
 mapped f xs x h = (h.0, omega (arith, length-map xs f, h.1), get_or-map f xs h.0 x (f x) h.1 ∙ ap f h.2)
 
 -- values that fit a format's rows, with it, are among all spellings
-spelling_among : (fdra : ℕ) (format : Format) (values : List ℕ) → Contains (all_values (rows_of format fdra)) values
-    → Contains (all_spellings fdra) (spelling_of format values)
+spelling_among : (w : Watch) (format : Format) (values : List ℕ) → is_monitored format ≡ true → Contains (all_values (list_of w format)) values
+    → Contains (all_spellings w) (spelling_of format values)
 unfolding all_spellings
-spelling_among fdra F00 values h =
-    let of : Format → List Spelling = λ f. map (spelling_of f) (all_values (rows_of f fdra)) in
-    Contains-append_left (of F00) (flat_map of (F10 ∷ Order ∷ [])) (spelling_of F00 values) (mapped (spelling_of F00) (all_values (rows_of F00 fdra)) values h)
-spelling_among fdra F10 values h =
-    let of : Format → List Spelling = λ f. map (spelling_of f) (all_values (rows_of f fdra)) in
+spelling_among w F00 values m h =
+    let of : Format → List Spelling = λ f. map (spelling_of f) (all_values (list_of w f)) in
+    Contains-append_left (of F00) (flat_map of (F10 ∷ Order ∷ [])) (spelling_of F00 values) (mapped (spelling_of F00) (all_values (list_of w F00)) values h)
+spelling_among w F10 values m h =
+    let of : Format → List Spelling = λ f. map (spelling_of f) (all_values (list_of w f)) in
     Contains-append_right (of F00) (flat_map of (F10 ∷ Order ∷ [])) (spelling_of F10 values)
-    (Contains-append_left (of F10) (flat_map of (Order ∷ [])) (spelling_of F10 values) (mapped (spelling_of F10) (all_values (rows_of F10 fdra)) values h))
-spelling_among fdra Order values h =
-    let of : Format → List Spelling = λ f. map (spelling_of f) (all_values (rows_of f fdra)) in
+    (Contains-append_left (of F10) (flat_map of (Order ∷ [])) (spelling_of F10 values) (mapped (spelling_of F10) (all_values (list_of w F10)) values h))
+spelling_among w Order values m h =
+    let of : Format → List Spelling = λ f. map (spelling_of f) (all_values (list_of w f)) in
     Contains-append_right (of F00) (flat_map of (F10 ∷ Order ∷ [])) (spelling_of Order values)
     (Contains-append_right (of F10) (flat_map of (Order ∷ [])) (spelling_of Order values)
-    (Contains-append_left (of Order) [] (spelling_of Order values) (mapped (spelling_of Order) (all_values (rows_of Order fdra)) values h)))
+    (Contains-append_left (of Order) [] (spelling_of Order values) (mapped (spelling_of Order) (all_values (list_of w Order)) values h)))
+spelling_among w F01 values m h = absurd (let f : ⊥ = cc in f)
+spelling_among w F11 values m h = absurd (let f : ⊥ = cc in f)
 
 -- what a search finds passes the test, and it finds nothing where nothing passes
 past : {X : Type 0} (b : Bool) (y x : X) (rest : Option X) → cond b (Some y) rest ≡ Some x → (b ≡ true → y ≡ x → ⊥) → rest ≡ Some x
@@ -348,75 +385,109 @@ finds_none test [] f = refl
 finds_none test (y ∷ ys) f = left_out (test y) y (find test ys) (f y) (finds_none test ys f)
 
 -- what the grid spells is found
-pub spelled_some : (grid : GridValue) (cell : FirstCell) (s : Spelling) → 48 ≤ grid.blocks → Spells grid cell s
-    → spelled (ascending 1024) (ascending 164) 11 grid (first_watch cell) ≡ Some s
+pub spelled_some : (tables : Tables) (grid : GridValue) (w : Watch) (s : Spelling) → AreTables tables → IsWatch w → AreInside grid w.symbol w.regs.items
+    → Spells tables grid w s → spelled tables grid w ≡ Some s
 unfolding spelled
-spelled_some grid cell s h g =
-    find_only (spells (ascending 1024) (ascending 164) 11 grid (first_watch cell)) (all_spellings 11) s
-    (spelling_among 11 s.format s.values (payload_among (rows_of s.format 11) s.format s.values 39 g.payload g.packs))
-    (spells_from grid cell s g)
-    (λ other e. spells_once grid cell other s (spells_to grid cell other h e) g)
+spelled_some tables grid w s legal keeps inside g =
+    find_only (spells tables grid w) (all_spellings w) s
+    (spelling_among w s.format s.values g.monitored (payload_among (list_of w s.format) s.format s.values w.size g.payload g.packs))
+    (spells_from tables grid w s g)
+    (λ other e. spells_once tables grid w other s legal keeps (spells_to tables grid w other inside e) g)
 
 -- and what is found is spelled
-pub spelled_passes : (grid : GridValue) (cell : FirstCell) (s : Spelling) → 48 ≤ grid.blocks
-    → spelled (ascending 1024) (ascending 164) 11 grid (first_watch cell) ≡ Some s → Spells grid cell s
+pub spelled_passes : (tables : Tables) (grid : GridValue) (w : Watch) (s : Spelling) → AreInside grid w.symbol w.regs.items
+    → spelled tables grid w ≡ Some s → Spells tables grid w s
 unfolding spelled
-spelled_passes grid cell s h e =
-    spells_to grid cell s h (found_passes (spells (ascending 1024) (ascending 164) 11 grid (first_watch cell)) (all_spellings 11) s e)
+spelled_passes tables grid w s inside e = spells_to tables grid w s inside (found_passes (spells tables grid w) (all_spellings w) s e)
 
-pub spelled_none : (grid : GridValue) (cell : FirstCell) → 48 ≤ grid.blocks → ((s : Spelling) → Spells grid cell s → ⊥)
-    → spelled (ascending 1024) (ascending 164) 11 grid (first_watch cell) ≡ None
+pub spelled_none : (tables : Tables) (grid : GridValue) (w : Watch) → AreInside grid w.symbol w.regs.items → ((s : Spelling) → Spells tables grid w s → ⊥)
+    → spelled tables grid w ≡ None
 unfolding spelled
-spelled_none grid cell h none =
-    finds_none (spells (ascending 1024) (ascending 164) 11 grid (first_watch cell)) (all_spellings 11) (λ s e. none s (spells_to grid cell s h e))
+spelled_none tables grid w inside none = finds_none (spells tables grid w) (all_spellings w) (λ s e. none s (spells_to tables grid w s inside e))
 
 pub finds_what_is_spelled : FindsWhatIsSpelled
-finds_what_is_spelled grid cell s h = (spelled_passes grid cell s h, spelled_some grid cell s h)
+finds_what_is_spelled tables grid w s legal keeps inside = (spelled_passes tables grid w s inside, spelled_some tables grid w s legal keeps inside)
 
 -- what is heard where no payload is carried, and where one is
-pub heard_nothing : (grid : GridValue) (cell : FirstCell) → 48 ≤ grid.blocks → ((payload : List Bool) → IsCarried grid cell payload → ⊥)
-    → None ≡ option_map (entry_of 11) (spelled (ascending 1024) (ascending 164) 11 grid (first_watch cell))
-heard_nothing grid cell h none =
-    sym (ap (option_map (entry_of 11)) (spelled_none grid cell h (λ s g. none g.payload (carried_of grid cell s g))))
+pub heard_nothing : (tables : Tables) (grid : GridValue) (w : Watch) → IsWatch w → AreInside grid w.symbol w.regs.items
+    → ((payload : List Bool) → IsCarried tables grid w payload → ⊥) → None ≡ option_map (entry_of w) (spelled tables grid w)
+heard_nothing tables grid w keeps inside none =
+    sym (ap (option_map (entry_of w)) (spelled_none tables grid w inside (λ s g. none g.payload (carried_of tables grid w s keeps g))))
 
-heard_unread : (grid : GridValue) (cell : FirstCell) (payload : List Bool) → 48 ≤ grid.blocks → IsCarried grid cell payload
-    → ((entry : Entry) → IsReadAs payload entry → ⊥)
-    → None ≡ option_map (entry_of 11) (spelled (ascending 1024) (ascending 164) 11 grid (first_watch cell))
-heard_unread grid cell payload h carried none =
+heard_unread : (tables : Tables) (grid : GridValue) (w : Watch) (payload : List Bool) → AreTables tables → IsWatch w → AreInside grid w.symbol w.regs.items
+    → IsCarried tables grid w payload → ((entry : Entry) → IsReadAs w payload entry → ⊥) → None ≡ option_map (entry_of w) (spelled tables grid w)
+heard_unread tables grid w payload legal keeps inside carried none =
     sym
-    (ap (option_map (entry_of 11))
-    (spelled_none grid cell h (λ s g.
-    let same : g.payload ≡ payload = carried_once grid cell g.payload payload (carried_of grid cell s g) carried in
-    none (entry_of 11 s) (record { values = s.values; packs = g.packs ∙ ap (λ (p : List Bool). Some p) same; shows = refl }))))
+    (ap (option_map (entry_of w))
+    (spelled_none tables grid w inside (λ s g.
+    let same : g.payload ≡ payload = carried_once tables grid w g.payload payload legal keeps (carried_of tables grid w s keeps g) carried in
+    none (entry_of w s) (g.monitored, record { values = s.values; packs = g.packs ∙ ap (λ (p : List Bool). Some p) same; shows = refl }))))
 
 abbrev entry_with : Format → List FieldValue → Entry
 entry_with format fields = record { format = format; fields = fields }
 
-heard_read : (grid : GridValue) (cell : FirstCell) (payload : List Bool) (entry : Entry) → 48 ≤ grid.blocks → IsCarried grid cell payload
-    → IsReadAs payload entry → Some entry ≡ option_map (entry_of 11) (spelled (ascending 1024) (ascending 164) 11 grid (first_watch cell))
-heard_read grid cell payload entry h carried read =
-    let is : spelled (ascending 1024) (ascending 164) 11 grid (first_watch cell) ≡ Some (spelling_of entry.format read.values) =
-    spelled_some grid cell (spelling_of entry.format read.values) h (record { payload = payload; packs = read.packs; agrees = carried.1 })
+heard_read : (tables : Tables) (grid : GridValue) (w : Watch) (payload : List Bool) (entry : Entry) → AreTables tables → IsWatch w
+    → AreInside grid w.symbol w.regs.items → IsCarried tables grid w payload → IsReadAs w payload entry
+    → Some entry ≡ option_map (entry_of w) (spelled tables grid w)
+heard_read tables grid w payload entry legal keeps inside carried read =
+    let is : spelled tables grid w ≡ Some (spelling_of entry.format read.1.values) =
+    spelled_some tables grid w (spelling_of entry.format read.1.values) legal keeps inside
+    (record { monitored = read.0; payload = payload; packs = read.1.packs; agrees = carried.1 })
     in
-    ap (λ (fields : List FieldValue). Some (entry_with entry.format fields)) (sym read.shows) ∙ sym (ap (option_map (entry_of 11)) is)
+    ap (λ (fields : List FieldValue). Some (entry_with entry.format fields)) (sym read.1.shows) ∙ sym (ap (option_map (entry_of w)) is)
 
-pub heard_as : (grid : GridValue) (cell : FirstCell) (payload : List Bool) (result : Option Entry) → 48 ≤ grid.blocks → IsCarried grid cell payload
-    → MatchOption result ((entry : Entry) → IsReadAs payload entry → ⊥) (IsReadAs payload)
-    → result ≡ option_map (entry_of 11) (spelled (ascending 1024) (ascending 164) 11 grid (first_watch cell))
-heard_as grid cell payload None h carried none = heard_unread grid cell payload h carried none
-heard_as grid cell payload (Some entry) h carried read = heard_read grid cell payload entry h carried read
+pub heard_as : (tables : Tables) (grid : GridValue) (w : Watch) (payload : List Bool) (result : Option Entry) → AreTables tables → IsWatch w
+    → AreInside grid w.symbol w.regs.items → IsCarried tables grid w payload
+    → MatchOption result ((entry : Entry) → IsReadAs w payload entry → ⊥) (IsReadAs w payload)
+    → result ≡ option_map (entry_of w) (spelled tables grid w)
+heard_as tables grid w payload None legal keeps inside carried none = heard_unread tables grid w payload legal keeps inside carried none
+heard_as tables grid w payload (Some entry) legal keeps inside carried read = heard_read tables grid w payload entry legal keeps inside carried read
 
-by_format : (payload : List Bool) → ((fields : List FieldValue) → Carries (rows_of F00 11) F00 39 payload fields → ⊥)
-    → ((fields : List FieldValue) → Carries (rows_of F10 11) F10 39 payload fields → ⊥)
-    → ((fields : List FieldValue) → Carries (rows_of Order 11) Order 39 payload fields → ⊥)
-    → (format : Format) (fields : List FieldValue) → Carries (rows_of format 11) format 39 payload fields → ⊥
-by_format payload a b c F00 fields h = a fields h
-by_format payload a b c F10 fields h = b fields h
-by_format payload a b c Order fields h = c fields h
+by_format : (w : Watch) (payload : List Bool) → ((fields : List FieldValue) → Carries w.up F00 w.size payload fields → ⊥)
+    → ((fields : List FieldValue) → Carries w.down F10 w.size payload fields → ⊥)
+    → ((fields : List FieldValue) → Carries (order_of w.down) Order w.size payload fields → ⊥)
+    → (format : Format) (fields : List FieldValue) → is_monitored format ≡ true → Carries (list_of w format) format w.size payload fields → ⊥
+by_format w payload a b c F00 fields m h = a fields h
+by_format w payload a b c F10 fields m h = b fields h
+by_format w payload a b c Order fields m h = c fields h
+by_format w payload a b c F01 fields m h = let f : ⊥ = cc in f
+by_format w payload a b c F11 fields m h = let f : ⊥ = cc in f
 
 -- a payload that none of the three formats carries is not read
-pub unread : (payload : List Bool) → ((fields : List FieldValue) → Carries (rows_of F00 11) F00 39 payload fields → ⊥)
-    → ((fields : List FieldValue) → Carries (rows_of F10 11) F10 39 payload fields → ⊥)
-    → ((fields : List FieldValue) → Carries (rows_of Order 11) Order 39 payload fields → ⊥)
-    → (entry : Entry) → IsReadAs payload entry → ⊥
-unread payload a b c entry h = by_format payload a b c entry.format entry.fields h
+pub unread : (w : Watch) (payload : List Bool) → ((fields : List FieldValue) → Carries w.up F00 w.size payload fields → ⊥)
+    → ((fields : List FieldValue) → Carries w.down F10 w.size payload fields → ⊥)
+    → ((fields : List FieldValue) → Carries (order_of w.down) Order w.size payload fields → ⊥)
+    → (entry : Entry) → IsReadAs w payload entry → ⊥
+unread w payload a b c entry h = by_format w payload a b c entry.format entry.fields h.0 h.1
+
+-- what a format carries in a payload of the watch's size
+pub carried_in : (rows : List FieldRow) (format : Format) (n size : ℕ) (payload : List Bool) (fields : List FieldValue) → n ≡ size
+    → Carries rows format n payload fields → Carries rows format size payload fields
+carried_in rows format n size payload fields e h = subst (λ (x : ℕ). Carries rows format x payload fields) e h
+
+-- the same of lists that are equal
+pub carried_by : (rows others : List FieldRow) (format : Format) (size : ℕ) (payload : List Bool) (fields : List FieldValue) → rows ≡ others
+    → Carries rows format size payload fields → Carries others format size payload fields
+carried_by rows others format size payload fields e h = subst (λ (x : List FieldRow). Carries x format size payload fields) e h
+
+-- a block that the received bits are the code of, in both ways of saying it
+pub code_on : (tables : Tables) (w : Watch) (s : CodeShape) (received bits block : List Bool)
+    → IsByTables tables.reliability tables.input_order (block_len w) (sent_len w) s → received ≡ scrambled w.scramble bits
+    → IsBlockOf s received block → IsCode tables w (scrambled w.scramble bits) block
+code_on tables w s received bits block by e h =
+    let P : List Bool → Type 0 = λ b. IsCode tables w b block in
+    subst P e (block_by-tables tables.reliability tables.input_order (block_len w) (sent_len w) s received block by h)
+
+pub code_back : (tables : Tables) (w : Watch) (s : CodeShape) (received bits block : List Bool)
+    → IsByTables tables.reliability tables.input_order (block_len w) (sent_len w) s → received ≡ scrambled w.scramble bits
+    → IsCode tables w (scrambled w.scramble bits) block → IsBlockOf s received block
+code_back tables w s received bits block by e h =
+    let P : List Bool → Type 0 = λ b. IsCode tables w b block in
+    block_of-tables tables.reliability tables.input_order (block_len w) (sent_len w) s received block by (subst P (sym e) h)
+
+-- so many bits are received as are sent
+pub all_received : (reliability input_order : List ℕ) (w : Watch) (s : CodeShape) (received bits : List Bool) → IsWatch w
+    → IsByTables reliability input_order (block_len w) (sent_len w) s → received ≡ scrambled w.scramble bits
+    → length bits ≡ 18 * length w.regs.items → length received ≡ s.coded_len
+all_received reliability input_order w s received bits keeps by e h =
+    ap length e ∙ length-scrambled w.scramble bits ∙ h ∙ omega (arith, keeps.count) ∙ sym by.coded_is

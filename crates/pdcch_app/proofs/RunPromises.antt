@@ -1,19 +1,21 @@
 -- The promises of a run, from what it leaves.
-use Rattle.std.proofs.Common.{◌≡◌, ◌<◌, ◌≤◌, ◌⊎◌, inl, inr, ⊎_elim, ℕ, true, false, List, [], ◌∷◌, Option, Some, None, Result, Ok, String, length, refl, sym, ap, ◌∙◌, subst, arith, append-nil}
+use Rattle.std.proofs.Common.{◌≡◌, ◌<◌, ◌≤◌, ◌⊎◌, inl, inr, ⊎_elim, ℕ, true, false, cond, List, [], ◌∷◌, Option, Some, None, Result, Ok, String, codes, length, refl, sym, ap, ◌∙◌, subst, arith, append-nil}
 use Rattle.std.specs.declared.alloc.Global.{Global}
-use Rattle.std.specs.Str.{bytes_eq}
-use Rattle.std.proofs.lemmas.Slice.Eq.{bytes_eq-Decides}
 use Rattle.outside.specs.Taken.{Takes}
 use Rattle.pdcch_app.specs.declared.status.Status.{Status}
 use Rattle.pdcch_app.specs.declared.status.Status.TheVariants as ends
-use Rattle.pdcch_app.specs.declared.first_cell.FirstCell.{FirstCell}
 use Rattle.pdcch_app.specs.declared.first_grant.FirstGrant.{FirstGrant}
+use Rattle.grant_file.specs.First.{first_fault_in as first_grants_fault, grants_in}
+use Rattle.settings_json.specs.First.{first_fault_in, raw_in}
 use Rattle.slot_grid.specs.Grid.{GridValue}
+use Rattle.table_files.specs.TableText.{read_table}
+use Rattle.pdcch_app.specs.FirstCells.{is_first}
+use Rattle.pdcch_app.specs.FirstGrants.{first_grant_of}
 use Rattle.pdcch_app.specs.FirstGrid.{grid_in}
-use Rattle.pdcch_app.specs.FirstForms.{settings_in, settings_of, grant_in, grant_of, grid_of, table_of, first_table}
+use Rattle.pdcch_app.specs.FirstForms.{settings_of, settings_found, built, first_numerology, grants_found, grant_of, grid_of, reliability_of, input_order_of, table_found}
 use Rattle.pdcch_app.specs.Outcome.{Outcome, Refusal, Fetched, given_of, limit, is_done, no_memory, reading}
 use Rattle.pdcch_app.specs.Outcomes.{outcome, served}
-use Rattle.pdcch_app.specs.Promises.{EndsAsReadFault, EndsAsWriteFault, RefusesSilently, RefusesWords, WritesFirstForms, SearchesFirstForms}
+use Rattle.pdcch_app.specs.Promises.{EndsAsReadFault, EndsAsWriteFault, RefusesSilently, RefusesWords, WritesFirstCells, SearchesFirstCells}
 use Rattle.pdcch_app.specs.Words.{legal, file}
 use Rattle.pdcch_app.proofs.Taking.{given_of-within}
 
@@ -60,36 +62,41 @@ went : {A : Type 0} (check : List ℕ → Result A Refusal) (name : List ℕ) (n
 unfolding reading
 went check name next bytes rest a h e = rw (given_of-within bytes h, e) refl
 
-settings-read : (name bytes : List ℕ) (cell : FirstCell) → settings_in bytes ≡ Some cell → settings_of name bytes ≡ Ok cell
+settings-read : (name bytes : List ℕ) → first_fault_in bytes ≡ None → is_first (raw_in bytes) ≡ true → settings_of name bytes ≡ Ok (raw_in bytes)
 unfolding settings_of
-settings-read name bytes cell e = rw e refl
+settings-read name bytes e f =
+    ap (λ found. settings_found name found (raw_in bytes)) e ∙ ap (λ first. built name (cond first (Some (raw_in bytes)) None)) f
 
-grant-read : (name bytes : List ℕ) (grant : FirstGrant) → grant_in bytes ≡ Some grant → grant_of name bytes ≡ Ok grant
+grant-read : (name bytes : List ℕ) (grant : FirstGrant) → first_grants_fault first_numerology bytes ≡ None → first_grant_of (grants_in bytes) ≡ Some grant → grant_of name bytes ≡ Ok grant
 unfolding grant_of
-grant-read name bytes grant e = rw e refl
+grant-read name bytes grant e f = ap (λ found. grants_found name found (grants_in bytes)) e ∙ ap (built name) f
 
 grid-read : (name bytes : List ℕ) (grid : GridValue) → grid_in bytes ≡ Some grid → grid_of name bytes ≡ Ok grid
 unfolding grid_of
 grid-read name bytes grid e = rw e refl
 
-table-read : (size : ℕ) (name bytes : List ℕ) → bytes ≡ first_table size → table_of size name bytes ≡ Ok tt
-unfolding table_of
-table-read size name bytes e = let same : bytes_eq bytes (first_table size) ≡ true = (bytes_eq-Decides bytes (first_table size)).1 e in rw same refl
+reliability-read : (bytes numbers : List ℕ) → read_table 1024 bytes ≡ Ok numbers → reliability_of bytes ≡ Ok numbers
+unfolding reliability_of
+reliability-read bytes numbers e = ap (table_found (codes "error: reliability: ")) e
 
-pub writes_first_forms : WritesFirstForms
-writes_first_forms words settings reliability input_order grants cell grant w hs hr hi hg s r i g =
+input_order-read : (bytes numbers : List ℕ) → read_table 164 bytes ≡ Ok numbers → input_order_of bytes ≡ Ok numbers
+unfolding input_order_of
+input_order-read bytes numbers e = ap (table_found (codes "error: input order: ")) e
+
+pub writes_first_cells : WritesFirstCells
+writes_first_cells words settings reliability input_order grants tables grant w hs hr hi hg s f r i j g =
     let gave : List Fetched = given_of settings ∷ given_of reliability ∷ given_of input_order ∷ given_of grants ∷ [] in
     ap (λ c. served c words gave) w
-    ∙ went (settings_of (file words 0)) (file words 0) _ settings _ cell hs (settings-read (file words 0) settings cell s)
-    ∙ went (table_of 1024 (file words 1)) (file words 1) _ reliability _ tt hr (table-read 1024 (file words 1) reliability r)
-    ∙ went (table_of 164 (file words 2)) (file words 2) _ input_order _ tt hi (table-read 164 (file words 2) input_order i)
-    ∙ went (grant_of (file words 3)) (file words 3) _ grants _ grant hg (grant-read (file words 3) grants grant g)
+    ∙ went (settings_of (file words 0)) (file words 0) _ settings _ (raw_in settings) hs (settings-read (file words 0) settings s f)
+    ∙ went reliability_of (file words 1) _ reliability _ tables.reliability hr (reliability-read reliability tables.reliability r)
+    ∙ went input_order_of (file words 2) _ input_order _ tables.input_order hi (input_order-read input_order tables.input_order i)
+    ∙ went (grant_of (file words 3)) (file words 3) _ grants _ grant hg (grant-read (file words 3) grants grant j g)
 
-pub searches_first_forms : SearchesFirstForms
-searches_first_forms words settings reliability input_order grid cell points w hs hr hi hg s r i g =
+pub searches_first_cells : SearchesFirstCells
+searches_first_cells words settings reliability input_order grid tables points w hs hr hi hg s f r i g =
     let gave : List Fetched = given_of settings ∷ given_of reliability ∷ given_of input_order ∷ given_of grid ∷ [] in
     ap (λ c. served c words gave) w
-    ∙ went (settings_of (file words 0)) (file words 0) _ settings _ cell hs (settings-read (file words 0) settings cell s)
-    ∙ went (table_of 1024 (file words 1)) (file words 1) _ reliability _ tt hr (table-read 1024 (file words 1) reliability r)
-    ∙ went (table_of 164 (file words 2)) (file words 2) _ input_order _ tt hi (table-read 164 (file words 2) input_order i)
+    ∙ went (settings_of (file words 0)) (file words 0) _ settings _ (raw_in settings) hs (settings-read (file words 0) settings s f)
+    ∙ went reliability_of (file words 1) _ reliability _ tables.reliability hr (reliability-read reliability tables.reliability r)
+    ∙ went input_order_of (file words 2) _ input_order _ tables.input_order hi (input_order-read input_order tables.input_order i)
     ∙ went (grid_of (file words 3)) (file words 3) _ grid _ points hg (grid-read (file words 3) grid points g)

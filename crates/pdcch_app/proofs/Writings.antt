@@ -1,33 +1,54 @@
 -- The grid of a grant, stage by stage.
-use Rattle.std.proofs.Common.{◌≡◌, ℕ, List, Bool, ap, ◌∙◌}
+use Rattle.std.proofs.Common.{◌≡◌, ℕ, ◌*◌, ◌+◌, List, Bool, length, ap, sym, ◌∙◌, arith}
 use Rattle.crc_mask.specs.Parity.{masked}
+use Rattle.dmrs_qpsk.specs.PointsOnGrid.{image_of}
+use Rattle.polar_chain.specs.CodeOfBlock.{code_by}
+use Rattle.polar_chain.specs.CodeShape.{CodeShape, IsByTables}
+use Rattle.rrc_settings.specs.declared.settings.RawCell.{RawCell}
 use Rattle.slot_grid.specs.Grid.{GridValue}
 use Rattle.slot_grid.specs.Image.{overwritten, blank_grid}
-use Rattle.pdcch_app.specs.declared.first_cell.FirstCell.{FirstCell}
+use Rattle.table_files.specs.declared.tables.Tables.{Tables}
 use Rattle.pdcch_app.specs.declared.first_grant.FirstGrant.{FirstGrant}
-use Rattle.pdcch_app.specs.declared.resources.Reg.{Reg}
+use Rattle.pdcch_app.specs.declared.watch.Watch.{Watch}
 use Rattle.pdcch_app.specs.BlockImage.{block_image}
-use Rattle.pdcch_app.specs.AscendingTable.{ascending}
-use Rattle.pdcch_app.specs.CodeOfBlock.{code_by}
-use Rattle.pdcch_app.specs.ControlResources.{candidate_regs}
-use Rattle.pdcch_app.specs.FirstResources.{eight_groups}
-use Rattle.pdcch_app.specs.Payload.{payload_10}
-use Rattle.pdcch_app.specs.PointsOnGrid.{image_of}
-use Rattle.pdcch_app.specs.Scrambling.{scramble_start, scrambled}
-use Rattle.pdcch_app.specs.Written.{grid_of_grant}
+use Rattle.pdcch_app.specs.Scrambling.{scrambled}
+use Rattle.pdcch_app.specs.Watches.{IsWatch}
+use Rattle.pdcch_app.specs.Written.{first_watch, grid_of_grant, payload_at}
+use Rattle.pdcch_app.proofs.Scrambles.{length-scrambled}
 
--- a grid overwritten with scrambled bits on REGs
-abbrev over : ℕ → List Reg → List Bool → GridValue → GridValue
-over id regs bits grid = overwritten (image_of grid.slot 0 id regs bits) grid
+-- a grid overwritten with a block at a watch
+abbrev over : Tables → Watch → List Bool → GridValue → GridValue
+over tables w block grid = overwritten (block_image tables grid.slot w block) grid
 
-pub written-from : (cell : FirstCell) (grant : FirstGrant) (payload block code bits : List Bool) (start : ℕ) (regs : List Reg) (blank : GridValue)
-    → payload ≡ payload_10 grant → block ≡ masked payload cell.rnti → code ≡ code_by (ascending 1024) (ascending 164) 63 864 block
-    → start ≡ scramble_start 0 cell.cell → bits ≡ scrambled start code → regs ≡ candidate_regs eight_groups 0 8 → blank ≡ blank_grid 1 0 0 51
-    → over cell.cell regs bits blank ≡ grid_of_grant cell grant
-unfolding grid_of_grant block_image
-written-from cell grant payload block code bits start regs blank p b c s e r g =
-    let block_is : block ≡ masked (payload_10 grant) cell.rnti = b ∙ ap (λ x. masked x cell.rnti) p in
-    let code_is : code ≡ code_by (ascending 1024) (ascending 164) 63 864 (masked (payload_10 grant) cell.rnti) = c ∙ ap (code_by (ascending 1024) (ascending 164) 63 864) block_is in
-    let bits_is : bits ≡ scrambled (scramble_start 0 cell.cell) (code_by (ascending 1024) (ascending 164) 63 864 (masked (payload_10 grant) cell.rnti)) =
-    e ∙ ap (λ x. scrambled x code) s ∙ ap (scrambled (scramble_start 0 cell.cell)) code_is in
-    ap (over cell.cell regs bits) g ∙ ap (λ x. over cell.cell x bits (blank_grid 1 0 0 51)) r ∙ ap (λ x. over cell.cell (candidate_regs eight_groups 0 8) x (blank_grid 1 0 0 51)) bits_is
+block_over : (tables : Tables) (w : Watch) (block code bits : List Bool) (grid : GridValue)
+    → code ≡ code_by tables.reliability tables.input_order (w.size + 24) (108 * w.level) block → bits ≡ scrambled w.scramble code
+    → overwritten (image_of grid.slot w.symbol w.dmrs_id w.regs.items bits) grid ≡ over tables w block grid
+unfolding block_image
+block_over tables w block code bits grid c e =
+    ap (λ (x : List Bool). overwritten (image_of grid.slot w.symbol w.dmrs_id w.regs.items x) grid) (e ∙ ap (scrambled w.scramble) c)
+
+pub written-from : (tables : Tables) (cell : RawCell) (grant : FirstGrant) (w : Watch) (payload block code bits : List Bool) (blank : GridValue)
+    → w ≡ first_watch cell → payload ≡ payload_at w grant → block ≡ masked payload w.rnti
+    → code ≡ code_by tables.reliability tables.input_order (w.size + 24) (108 * w.level) block → bits ≡ scrambled w.scramble code
+    → blank ≡ blank_grid 1 0 0 51
+    → overwritten (image_of blank.slot w.symbol w.dmrs_id w.regs.items bits) blank ≡ grid_of_grant tables cell grant
+unfolding grid_of_grant
+written-from tables cell grant w payload block code bits blank is p b c e g =
+    let block_is : block ≡ masked (payload_at w grant) w.rnti = b ∙ ap (λ x. masked x w.rnti) p in
+    block_over tables w block code bits blank c e
+    ∙ ap (λ (x : List Bool). over tables w x blank) block_is
+    ∙ ap (λ (x : GridValue). over tables w (masked (payload_at w grant) w.rnti) x) g
+    ∙ ap (λ (x : Watch). over tables x (masked (payload_at x grant) x.rnti) (blank_grid 1 0 0 51)) is
+
+-- a block has the bits that the code asks for
+pub block_fits : (reliability input_order : List ℕ) (w : Watch) (s : CodeShape) (payload block : List Bool)
+    → IsByTables reliability input_order (w.size + 24) (108 * w.level) s → length payload ≡ w.size → length block ≡ length payload + 24
+    → length block ≡ s.block_len
+block_fits reliability input_order w s payload block by p b = b ∙ omega (arith, p, by.block_is)
+
+-- and as many are sent as the REGs have places for
+pub bits_fit : (reliability input_order : List ℕ) (w : Watch) (s : CodeShape) (code bits : List Bool) → IsWatch w
+    → IsByTables reliability input_order (w.size + 24) (108 * w.level) s → length code ≡ s.coded_len → bits ≡ scrambled w.scramble code
+    → length bits ≡ 18 * length w.regs.items
+bits_fit reliability input_order w s code bits keeps by c e =
+    ap length e ∙ length-scrambled w.scramble code ∙ c ∙ by.coded_is ∙ omega (arith, keeps.count)

@@ -1,15 +1,16 @@
 -- An entry of a report: the format that was heard, and its shown fields in order.
-use Rattle.std.specs.Prelude.{ℕ, List}
-use Rattle.pdcch_app.specs.declared.fields.formats.Format.{Format}
-use Rattle.pdcch_app.specs.declared.fields.rows.FieldValue.{FieldValue}
-use Rattle.pdcch_app.specs.Fields.{rows_of}
-use Rattle.pdcch_app.specs.PayloadOfRows.{shown}
+use Rattle.std.specs.Prelude.{List}
+use Rattle.dci_fields.specs.declared.formats.Format.{Format}
+use Rattle.dci_fields.specs.declared.values.FieldValue.{FieldValue}
+use Rattle.dci_fields.specs.Payloads.{shown}
+use Rattle.pdcch_app.specs.declared.watch.Watch.{Watch}
 use Rattle.pdcch_app.specs.Spelling.{Spelling}
+use Rattle.pdcch_app.specs.Watches.{list_of}
 
 pub record Entry : Type 0 where
   pub format : Format
   pub fields : List FieldValue
 
--- the entry of what was spelled, where the frequency assignment has `fdra` bits
-abbrev pub entry_of : ℕ → Spelling → Entry
-entry_of fdra s = record { format = s.format; fields = shown (rows_of s.format fdra) s.format s.values }
+-- the entry of what was spelled at a watch
+abbrev pub entry_of : Watch → Spelling → Entry
+entry_of watch s = record { format = s.format; fields = shown (list_of watch s.format) s.format s.values }

@@ -1,38 +1,46 @@
--- What a grid carries at the one watch of the first cell, and what it spells there.
-use Rattle.std.specs.Prelude.{◌≡◌, ◌↔◌, ◌≤◌, Bool, List, Some, length}
+-- What a grid carries at a watch, and what it spells there.
+use Rattle.std.specs.Prelude.{◌≡◌, ◌↔◌, Bool, true, List, Some, length}
 use Rattle.crc_mask.specs.Parity.{masked}
+use Rattle.dci_fields.specs.Payloads.{payload_of, Carries}
+use Rattle.dmrs_qpsk.specs.PointsOnGrid.{AreInside}
 use Rattle.slot_grid.specs.Grid.{GridValue}
 use Rattle.slot_grid.specs.Image.{Agrees}
-use Rattle.pdcch_app.specs.declared.first_cell.FirstCell.{FirstCell}
-use Rattle.pdcch_app.specs.AscendingTable.{ascending}
+use Rattle.table_files.specs.declared.tables.Tables.{Tables}
+use Rattle.table_files.specs.Permutation.{IsTable}
+use Rattle.pdcch_app.specs.declared.watch.Watch.{Watch}
 use Rattle.pdcch_app.specs.BlockImage.{block_image}
 use Rattle.pdcch_app.specs.Entry.{Entry}
-use Rattle.pdcch_app.specs.Fields.{rows_of}
-use Rattle.pdcch_app.specs.PayloadOfRows.{payload_of, Carries}
 use Rattle.pdcch_app.specs.Spelling.{Spelling, spelled}
-use Rattle.pdcch_app.specs.Written.{first_watch}
+use Rattle.pdcch_app.specs.Watches.{IsWatch, is_monitored, list_of}
 
--- the grid agrees with what the payload, masked by the handset's RNTI, writes at the watch
-abbrev pub AgreesWith : GridValue → FirstCell → List Bool → Type 0
-AgreesWith grid cell payload =
-    Agrees grid (block_image (ascending 1024) (ascending 164) grid.slot (first_watch cell) (masked payload cell.rnti))
+-- both tables are permutations
+abbrev pub AreTables : Tables → Type 0
+AreTables tables = IsTable 1024 tables.reliability × IsTable 164 tables.input_order
 
--- the grid carries a payload of 39 bits
-abbrev pub IsCarried : GridValue → FirstCell → List Bool → Type 0
-IsCarried grid cell payload = (length payload ≡ 39) × AgreesWith grid cell payload
+-- the grid agrees with what the payload, masked by the watch's RNTI, writes at the watch
+abbrev pub AgreesWith : Tables → GridValue → Watch → List Bool → Type 0
+AgreesWith tables grid watch payload = Agrees grid (block_image tables grid.slot watch (masked payload watch.rnti))
 
--- a payload is read as a format with its shown fields
-abbrev pub IsReadAs : List Bool → Entry → Type 0
-IsReadAs payload entry = Carries (rows_of entry.format 11) entry.format 39 payload entry.fields
+-- the grid carries a payload of the watch's size
+abbrev pub IsCarried : Tables → GridValue → Watch → List Bool → Type 0
+IsCarried tables grid watch payload = (length payload ≡ watch.size) × AgreesWith tables grid watch payload
 
--- the grid spells a format with its field values: they have a payload, and the grid agrees with what it writes
-pub record Spells (grid : GridValue) (cell : FirstCell) (spelling : Spelling) : Type 0 where
+-- a payload is read at a watch as a format that is monitored there, with its shown fields
+abbrev pub IsReadAs : Watch → List Bool → Entry → Type 0
+IsReadAs watch payload entry =
+    (is_monitored entry.format ≡ true) × Carries (list_of watch entry.format) entry.format watch.size payload entry.fields
+
+-- the grid spells a format with its field values: the format is monitored, the values have a payload, and the grid agrees with
+-- what it writes
+pub record Spells (tables : Tables) (grid : GridValue) (watch : Watch) (spelling : Spelling) : Type 0 where
+  pub monitored : is_monitored spelling.format ≡ true
   pub payload : List Bool
-  pub packs : payload_of (rows_of spelling.format 11) spelling.format spelling.values 39 ≡ Some payload
-  pub agrees : AgreesWith grid cell payload
+  pub packs : payload_of (list_of watch spelling.format) spelling.format spelling.values watch.size ≡ Some payload
+  pub agrees : AgreesWith tables grid watch payload
 
 -- what is found among all spellings is what the grid spells, so it spells at most one
 abbrev pub FindsWhatIsSpelled : Type 0
 FindsWhatIsSpelled =
-    (grid : GridValue) (cell : FirstCell) (spelling : Spelling) → 48 ≤ grid.blocks →
-    (spelled (ascending 1024) (ascending 164) 11 grid (first_watch cell) ≡ Some spelling) ↔ Spells grid cell spelling
+    (tables : Tables) (grid : GridValue) (watch : Watch) (spelling : Spelling) → AreTables tables → IsWatch watch →
+    AreInside grid watch.symbol watch.regs.items →
+    (spelled tables grid watch ≡ Some spelling) ↔ Spells tables grid watch spelling

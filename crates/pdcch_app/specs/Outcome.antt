@@ -50,10 +50,16 @@ given_of bytes = cond (leb (length bytes) limit) (Bytes bytes) TooLong
 
 -- why a check or a job refuses
 pub data Cause : Type 0 where
+  BadSettings : Cause
+  BadTable : Cause
+  BadGrants : Cause
   Unbuilt : Cause
 
 -- the status of a cause
 abbrev pub status_of : Cause → Status
+status_of BadSettings = status.SettingsRefused
+status_of BadTable = status.TableRefused
+status_of BadGrants = status.GrantsFileRefused
 status_of Unbuilt = status.NotBuilt
 
 -- a cause and its line, without the line feed

@@ -1,15 +1,19 @@
 -- What every run promises, as sentences over what a run leaves.
-use Rattle.std.specs.Prelude.{◌≡◌, ◌<◌, ◌≤◌, ◌⊎◌, ℕ, false, List, [], ◌∷◌, Option, Some, None, String, length, codes, option_map}
+use Rattle.std.specs.Prelude.{◌≡◌, ◌<◌, ◌≤◌, ◌⊎◌, ℕ, true, false, List, [], ◌∷◌, Option, Some, None, Ok, String, length, codes, option_map}
 use Rattle.std.specs.declared.alloc.Global.{Global}
+use Rattle.settings_json.specs.First.{first_fault_in, raw_in}
+use Rattle.table_files.specs.TableText.{read_table}
+use Rattle.table_files.specs.declared.tables.Tables.{Tables}
 use Rattle.pdcch_app.specs.declared.status.Status.{Status}
 use Rattle.pdcch_app.specs.declared.status.Status.TheVariants as ends
 use Rattle.pdcch_app.specs.declared.words.Command.TheVariants.{Write, Search}
-use Rattle.pdcch_app.specs.declared.first_cell.FirstCell.{FirstCell}
 use Rattle.pdcch_app.specs.declared.first_grant.FirstGrant.{FirstGrant}
 use Rattle.slot_grid.specs.Grid.{GridValue}
-use Rattle.pdcch_app.specs.AscendingTable.{ascending}
 use Rattle.pdcch_app.specs.Entry.{entry_of}
-use Rattle.pdcch_app.specs.FirstForms.{settings_in, grant_in, first_table}
+use Rattle.pdcch_app.specs.FirstCells.{is_first}
+use Rattle.grant_file.specs.First.{first_fault_in as first_grants_fault, grants_in}
+use Rattle.pdcch_app.specs.FirstForms.{first_numerology}
+use Rattle.pdcch_app.specs.FirstGrants.{first_grant_of}
 use Rattle.pdcch_app.specs.FirstGrid.{grid_in}
 use Rattle.pdcch_app.specs.GridText.{grid_text}
 use Rattle.pdcch_app.specs.Outcome.{given_of, limit, is_done}
@@ -42,24 +46,26 @@ RefusesWords = (words : List (String Global)) (told : List ℕ → Option (List 
     → Ran words told fo fn lo ln result oo on ofo ofn eo en efo efn → legal words ≡ None
     → (result ≡ ends.Usage) ⊎ ((result ≡ ends.WriteFault) ⊎ (result ≡ ends.NoMemory))
 
--- four files of their first forms are written as the text of the grid with the grant on it
-abbrev pub WritesFirstForms : Type 0
-WritesFirstForms = (words : List (String Global)) (settings reliability input_order grants : List ℕ) (cell : FirstCell) (grant : FirstGrant)
+-- legal settings of a first cell, any two tables and legal first grants are written as the text of the grid with the grant on it
+abbrev pub WritesFirstCells : Type 0
+WritesFirstCells = (words : List (String Global)) (settings reliability input_order grants : List ℕ) (tables : Tables) (grant : FirstGrant)
     → legal words ≡ Some Write
     → length settings ≤ limit → length reliability ≤ limit → length input_order ≤ limit → length grants ≤ limit
-    → settings_in settings ≡ Some cell → reliability ≡ first_table 1024 → input_order ≡ first_table 164 → grant_in grants ≡ Some grant
+    → first_fault_in settings ≡ None → is_first (raw_in settings) ≡ true
+    → read_table 1024 reliability ≡ Ok tables.reliability → read_table 164 input_order ≡ Ok tables.input_order → first_grants_fault first_numerology grants ≡ None → first_grant_of (grants_in grants) ≡ Some grant
     → outcome words (given_of settings ∷ given_of reliability ∷ given_of input_order ∷ given_of grants ∷ [])
-    ≡ record { status = ends.Done; out = grid_text (grid_of_grant cell grant); err = [] }
+    ≡ record { status = ends.Done; out = grid_text (grid_of_grant tables (raw_in settings) grant); err = [] }
 
--- four files of their first forms, the last a grid, give the report of what the grid spells
-abbrev pub SearchesFirstForms : Type 0
-SearchesFirstForms = (words : List (String Global)) (settings reliability input_order grid : List ℕ) (cell : FirstCell) (points : GridValue)
+-- legal settings of a first cell, any two tables and a first grid give the report of what the grid spells
+abbrev pub SearchesFirstCells : Type 0
+SearchesFirstCells = (words : List (String Global)) (settings reliability input_order grid : List ℕ) (tables : Tables) (points : GridValue)
     → legal words ≡ Some Search
     → length settings ≤ limit → length reliability ≤ limit → length input_order ≤ limit → length grid ≤ limit
-    → settings_in settings ≡ Some cell → reliability ≡ first_table 1024 → input_order ≡ first_table 164 → grid_in grid ≡ Some points
+    → first_fault_in settings ≡ None → is_first (raw_in settings) ≡ true
+    → read_table 1024 reliability ≡ Ok tables.reliability → read_table 164 input_order ≡ Ok tables.input_order → grid_in grid ≡ Some points
     → outcome words (given_of settings ∷ given_of reliability ∷ given_of input_order ∷ given_of grid ∷ [])
     ≡ record {
       status = ends.Done;
-      out = report points (codes "alpha") (first_watch cell) (option_map (entry_of 11) (spelled (ascending 1024) (ascending 164) 11 points (first_watch cell)));
+      out = report points (codes "alpha") (first_watch (raw_in settings)) (option_map (entry_of (first_watch (raw_in settings))) (spelled tables points (first_watch (raw_in settings))));
       err = [];
     }

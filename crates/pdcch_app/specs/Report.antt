@@ -3,11 +3,12 @@ use Rattle.std.specs.Prelude.{ℕ, ◌+◌, ◌/◌, ◌%◌, cond, ltb, List, [
 use Rattle.std.specs.List.{flat_map}
 use Rattle.std.specs.Fmt.{decimal}
 use Rattle.slot_grid.specs.Grid.{GridValue}
-use Rattle.pdcch_app.specs.declared.fields.formats.Format.{Format}
-use Rattle.pdcch_app.specs.declared.fields.rows.FieldValue.{FieldValue}
+use Rattle.dci_fields.specs.declared.formats.Format.{Format}
+use Rattle.dci_fields.specs.declared.values.FieldValue.{FieldValue}
+use Rattle.dci_fields.specs.Formats.{format_word}
+use Rattle.dci_fields.specs.Words.{word_of}
 use Rattle.pdcch_app.specs.Entry.{Entry}
-use Rattle.pdcch_app.specs.Fields.{format_word, field_word}
-use Rattle.pdcch_app.specs.Watch.{Watch}
+use Rattle.pdcch_app.specs.declared.watch.Watch.{Watch}
 
 -- the slot of the grid
 unfoldable pub slot_line : ℕ → ℕ → List ℕ
@@ -28,7 +29,7 @@ hex_word n = hex_digit (n / 4096) ∷ hex_digit (n / 256 % 16) ∷ hex_digit (n 
 
 -- a field and its value
 unfoldable pub field_text : FieldValue → List ℕ
-field_text field = 32 ∷ [] ++ field_word field.name ++ 61 ∷ [] ++ decimal field.value
+field_text field = 32 ∷ [] ++ word_of field.name ++ 61 ∷ [] ++ decimal field.value
 
 -- what was heard at a watch: a format and the shown fields
 unfoldable pub heard_line : Watch → Format → List FieldValue → List ℕ

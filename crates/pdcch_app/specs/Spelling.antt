@@ -1,31 +1,28 @@
 -- What a grid spells at a watch: a format with field values whose masked payload has the grid's points as its image.
-use Rattle.std.specs.Prelude.{ℕ, ◌*◌, Bool, true, false, List, [], ◌∷◌, Option, Some, None, map, find}
+use Rattle.std.specs.Prelude.{ℕ, ◌*◌, Bool, true, false, ◌&&◌, List, Option, Some, None, map, find}
 use Rattle.std.specs.List.{range_with_len, flat_map, list_all}
 use Rattle.crc_mask.specs.Parity.{masked}
 use Rattle.slot_grid.specs.declared.places.Point.{Point}
 use Rattle.slot_grid.specs.declared.places.Point.TheVariants.{Empty, P00, P01, P10, P11}
 use Rattle.slot_grid.specs.Grid.{GridValue, point_at}
 use Rattle.slot_grid.specs.Image.{Image}
-use Rattle.pdcch_app.specs.declared.fields.formats.Format.{Format}
-use Rattle.pdcch_app.specs.declared.fields.formats.Format.TheVariants.{F00, F10, Order}
+use Rattle.table_files.specs.declared.tables.Tables.{Tables}
+use Rattle.dci_fields.specs.declared.formats.Format.{Format}
+use Rattle.dci_fields.specs.Payloads.{payload_of}
 use Rattle.pdcch_app.specs.BlockImage.{block_image}
-use Rattle.pdcch_app.specs.Fields.{rows_of}
-use Rattle.pdcch_app.specs.PayloadOfRows.{payload_of, all_values}
-use Rattle.pdcch_app.specs.Watch.{Watch}
+use Rattle.pdcch_app.specs.declared.watch.Watch.{Watch}
+use Rattle.pdcch_app.specs.AllValues.{all_values}
+use Rattle.pdcch_app.specs.Watches.{formats, is_monitored, list_of}
 
 -- a format, and a value for each of its rows
 pub record Spelling : Type 0 where
   pub format : Format
   pub values : List ℕ
 
--- the formats that are told apart
-abbrev pub formats : List Format
-formats = F00 ∷ F10 ∷ Order ∷ []
-
--- every spelling whose values fit, where the frequency assignment has `fdra` bits
-unfoldable pub all_spellings : ℕ → List Spelling
-all_spellings fdra =
-    flat_map (λ f. map (λ vs. record { format = f; values = vs }) (all_values (rows_of f fdra))) formats
+-- every spelling at a watch whose values fit
+unfoldable pub all_spellings : Watch → List Spelling
+all_spellings watch =
+    flat_map (λ f. map (λ vs. record { format = f; values = vs }) (all_values (list_of watch f))) formats
 
 -- two points are one
 abbrev pub is_point : Point → Point → Bool
@@ -47,16 +44,16 @@ agrees grid image =
     list_all (λ s. list_all (λ c. fits_there (image s c) (point_at grid s c)) (range_with_len 0 (12 * grid.blocks))) (range_with_len 0 14)
 
 -- the grid agrees with what the payload writes at the watch, masked by the watch's RNTI
-abbrev pub carries : List ℕ → List ℕ → GridValue → Watch → Option (List Bool) → Bool
-carries reliability input_order grid watch None = false
-carries reliability input_order grid watch (Some payload) =
-    agrees grid (block_image reliability input_order grid.slot watch (masked payload watch.rnti))
+abbrev pub carries : Tables → GridValue → Watch → Option (List Bool) → Bool
+carries tables grid watch None = false
+carries tables grid watch (Some payload) =
+    agrees grid (block_image tables grid.slot watch (masked payload watch.rnti))
 
--- a spelling has a payload of the watch's size, and the grid carries it
-abbrev pub spells : List ℕ → List ℕ → ℕ → GridValue → Watch → Spelling → Bool
-spells reliability input_order fdra grid watch s =
-    carries reliability input_order grid watch (payload_of (rows_of s.format fdra) s.format s.values watch.size)
+-- a spelling is of a format that is monitored, it has a payload of the watch's size, and the grid carries it
+abbrev pub spells : Tables → GridValue → Watch → Spelling → Bool
+spells tables grid watch s =
+    is_monitored s.format && carries tables grid watch (payload_of (list_of watch s.format) s.format s.values watch.size)
 
 -- what the grid spells at the watch, where it spells something
-unfoldable pub spelled : List ℕ → List ℕ → ℕ → GridValue → Watch → Option Spelling
-spelled reliability input_order fdra grid watch = find (spells reliability input_order fdra grid watch) (all_spellings fdra)
+unfoldable pub spelled : Tables → GridValue → Watch → Option Spelling
+spelled tables grid watch = find (spells tables grid watch) (all_spellings watch)

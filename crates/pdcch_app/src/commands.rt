@@ -1,31 +1,40 @@
 //! The commands, each step by step in the order of its work.
 ghost use Rattle.std.specs.Prelude.{◌≡◌, ◌∷◌, [], ℕ, List};
+ghost use Rattle.pdcch_app.specs.FirstCells.{IsFirst};
 ghost use Rattle.pdcch_app.specs.FirstGrid.{IsFirstGrid};
 ghost use Rattle.pdcch_app.specs.Outcome.{ended};
 ghost use Rattle.pdcch_app.specs.Outcomes.{write_of, written, search_of, searched};
-ghost use Rattle.pdcch_app.specs.Payload.{IsInRange};
+ghost use Rattle.pdcch_app.specs.Granted.{IsInRange};
 ghost use Rattle.pdcch_app.specs.Steps.{Work, Ends};
 
 use crate::answer::Answer;
-use crate::files::{grant_at, grid_at, settings_at, table_at};
-use crate::first_cell::FirstCell;
+use crate::files::{grant_at, grid_at, input_order_at, reliability_at, settings_at};
 use crate::first_grant::FirstGrant;
 use crate::grid_text::grid_text;
 use crate::hearing::hear;
 use crate::report_text::report_text;
 use crate::status::Status;
 use crate::stop::Stop;
+use crate::watch::first_watch;
 use crate::written::grid_of_grant;
 use outside::Shelf;
+use rrc_settings::Cell;
 use slot_grid::Grid;
 use std::alloc::Global;
+use table_files::Tables;
 
 /// The text of the cell's grid with the grant on it.
-fn write_text(alloc: Global, cell: &FirstCell, grant: &FirstGrant) -> Result<Answer, Stop>
-    requires { IsInRange grant.now }
-    ensures { Ends result (ended (written cell.now grant.now)) }
+fn write_text(
+    alloc: Global,
+    cell: &Cell,
+    tables: &Tables,
+    grant: &FirstGrant,
+) -> Result<Answer, Stop>
+    requires first { IsFirst cell.now }
+    requires range { IsInRange grant.now }
+    ensures { Ends result (ended (written cell.now tables.now grant.now)) }
 {
-    let grid = grid_of_grant(alloc, cell, grant)?;
+    let grid = grid_of_grant(alloc, tables, cell, grant)?;
     let text = grid_text(alloc, &grid)?;
     Ok(Answer::new(Status::Done, text, Vec::new(alloc)))
 }
@@ -46,19 +55,25 @@ pub fn write<S: Shelf>(
     ensures { Work (write_of settings.now reliability.now input_order.now grants.now) (settings.now ∷ reliability.now ∷ input_order.now ∷ grants.now ∷ []) (S.told shelf.old) (S.faults shelf.old) (S.faults shelf.new) (S.longs shelf.old) (S.longs shelf.new) result }
 {
     let cell = settings_at(alloc, shelf, settings)?;
-    table_at(alloc, shelf, 1024, reliability)?;
-    table_at(alloc, shelf, 164, input_order)?;
+    let reliability = reliability_at(alloc, shelf, reliability)?;
+    let input_order = input_order_at(alloc, shelf, input_order)?;
     let grant = grant_at(alloc, shelf, grants)?;
-    write_text(alloc, &cell, &grant)
+    let tables = Tables {
+        reliability,
+        input_order,
+    };
+    write_text(alloc, &cell, &tables, &grant)
 }
 
 /// The report of what the handset hears on the grid.
-fn search_text(alloc: Global, cell: &FirstCell, grid: &Grid) -> Result<Answer, Stop>
-    requires { IsFirstGrid grid.now }
-    ensures { Ends result (ended (searched cell.now grid.now)) }
+fn search_text(alloc: Global, cell: &Cell, tables: &Tables, grid: &Grid) -> Result<Answer, Stop>
+    requires first { IsFirst cell.now }
+    requires grid { IsFirstGrid grid.now }
+    ensures { Ends result (ended (searched cell.now tables.now grid.now)) }
 {
-    let heard = hear(grid, cell);
-    let text = report_text(alloc, grid, cell, &heard)?;
+    let watch = first_watch(cell);
+    let heard = hear(tables, grid, &watch);
+    let text = report_text(alloc, grid, &watch, &heard)?;
     Ok(Answer::new(Status::Done, text, Vec::new(alloc)))
 }
 
@@ -78,8 +93,12 @@ pub fn search<S: Shelf>(
     ensures { Work (search_of settings.now reliability.now input_order.now grid.now) (settings.now ∷ reliability.now ∷ input_order.now ∷ grid.now ∷ []) (S.told shelf.old) (S.faults shelf.old) (S.faults shelf.new) (S.longs shelf.old) (S.longs shelf.new) result }
 {
     let cell = settings_at(alloc, shelf, settings)?;
-    table_at(alloc, shelf, 1024, reliability)?;
-    table_at(alloc, shelf, 164, input_order)?;
+    let reliability = reliability_at(alloc, shelf, reliability)?;
+    let input_order = input_order_at(alloc, shelf, input_order)?;
     let points = grid_at(alloc, shelf, grid)?;
-    search_text(alloc, &cell, &points)
+    let tables = Tables {
+        reliability,
+        input_order,
+    };
+    search_text(alloc, &cell, &tables, &points)
 }

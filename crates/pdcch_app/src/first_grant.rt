@@ -1,29 +1,10 @@
 //! The first grants: one grant of format 1_0 at aggregation level 8.
-ghost use Rattle.std.specs.Prelude.{◌≡◌, IfSome};
-ghost use Rattle.pdcch_app.specs.FirstForms.{grant_in};
-ghost use Rattle.pdcch_app.specs.Payload.{IsInRange};
+ghost use Rattle.std.specs.Prelude.{◌≡◌, ◌≤◌, ◌^◌, ◌<◌, IfSome};
+ghost use Rattle.pdcch_app.specs.FirstGrants.{fields_of, first_fields, first_grant_of, is_10, is_first_place, number_of, only_grant};
+ghost use Rattle.pdcch_app.specs.Granted.{IsInRange};
 
-use crate::reader::Reader;
-
-/// The text before the number of `fdra`.
-pub const BEFORE_FDRA: &[u8] =
-    b"{\"frame\":0,\"slot\":0,\"grants\":[{\"handset\":\"alpha\",\"set\":1,\"level\":8,\"format\":\"1_0\",\"fields\":{\"fdra\":";
-/// The text before the number of `tdra`.
-pub const BEFORE_TDRA: &[u8] = b",\"tdra\":";
-/// The text before the number of `mcs`.
-pub const BEFORE_MCS: &[u8] = b",\"mcs\":";
-/// The text before the number of `ndi`.
-pub const BEFORE_NDI: &[u8] = b",\"ndi\":";
-/// The text before the number of `harq`.
-pub const BEFORE_HARQ: &[u8] = b",\"harq\":";
-/// The text before the number of `tpc`.
-pub const BEFORE_TPC: &[u8] = b",\"tpc\":";
-/// The text before the number of `pucch`.
-pub const BEFORE_PUCCH: &[u8] = b",\"pucch\":";
-/// The text before the number of `timing`.
-pub const BEFORE_TIMING: &[u8] = b",\"timing\":";
-/// The text after the number of `timing`.
-pub const AFTER_TIMING: &[u8] = b"}}]}";
+use dci_fields::{FieldName, Format, Given};
+use grant_file::{Grant, GrantList};
 
 /// The field numbers that the first grants leave open.
 #[derive(Clone, Copy, Debug, PartialEq, Eq)]
@@ -46,42 +27,91 @@ pub struct FirstGrant {
     pub timing: u16,
 }
 
-/// The grant of a first grants text; `None` exactly where the text is another.
-#[tactic(auto, unfolding(crate::specs::FirstForms::grant_in))]
-pub fn grant_in(text: &[u8]) -> Option<FirstGrant>
-    ensures grant { result ≡ grant_in text.now }
-    ensures range { IfSome result (λ grant. IsInRange grant) }
+/// The number of a field of this name, where it is at most `most`.
+fn number_of(name: FieldName, most: u16, given: &Given) -> Option<u16>
+    ensures number { result ≡ number_of name most given.now }
+    ensures range { IfSome result (λ number. number ≤ most) }
 {
-    let mut reader = Reader::new(text);
-    reader.skip(BEFORE_FDRA)?;
-    let fdra = reader.number(0, 2046)?;
-    reader.skip(BEFORE_TDRA)?;
-    let tdra = reader.number(0, 15)?;
-    reader.skip(BEFORE_MCS)?;
-    let mcs = reader.number(0, 31)?;
-    reader.skip(BEFORE_NDI)?;
-    let ndi = reader.number(0, 1)?;
-    reader.skip(BEFORE_HARQ)?;
-    let harq = reader.number(0, 15)?;
-    reader.skip(BEFORE_TPC)?;
-    let tpc = reader.number(0, 3)?;
-    reader.skip(BEFORE_PUCCH)?;
-    let pucch = reader.number(0, 7)?;
-    reader.skip(BEFORE_TIMING)?;
-    let timing = reader.number(0, 7)?;
-    reader.skip(AFTER_TIMING)?;
-    if reader.is_at_end() {
-        Some(FirstGrant {
-            fdra,
-            tdra,
-            mcs,
-            ndi,
-            harq,
-            tpc,
-            pucch,
-            timing,
-        })
+    match given.name {
+        Some(found) if found == name && given.value <= u64::from(most) => Some(given.value as u16),
+        _ => None,
+    }
+}
+
+/// The eight fields of a first grant, which stand in the order of their words.
+#[tactic(auto, unfolding(crate::specs::FirstGrants::first_fields))]
+fn first_fields(given: &[Given]) -> Option<FirstGrant>
+    ensures fields { result ≡ first_fields given.now }
+    ensures range { IfSome result IsInRange }
+{
+    if given.len() != 8 {
+        return None;
+    }
+    let fdra = number_of(FieldName::Fdra, 2046, &given[0])?;
+    let harq = number_of(FieldName::Harq, 15, &given[1])?;
+    let mcs = number_of(FieldName::Mcs, 31, &given[2])?;
+    let ndi = number_of(FieldName::Ndi, 1, &given[3])?;
+    let pucch = number_of(FieldName::Pucch, 7, &given[4])?;
+    let tdra = number_of(FieldName::Tdra, 15, &given[5])?;
+    let timing = number_of(FieldName::Timing, 7, &given[6])?;
+    let tpc = number_of(FieldName::Tpc, 3, &given[7])?;
+    Some(FirstGrant {
+        fdra,
+        tdra,
+        mcs,
+        ndi,
+        harq,
+        tpc,
+        pucch,
+        timing,
+    })
+}
+
+/// Whether a format is 1_0.
+fn is_10(format: Format) -> bool
+    ensures { result ≡ is_10 format }
+{
+    match format {
+        Format::F10 => true,
+        _ => false,
+    }
+}
+
+/// Whether a grant goes to the handset of a first cell, in its set, at its level and in format 1_0.
+fn is_first_place(grant: &Grant) -> bool
+    ensures { result ≡ is_first_place grant.now }
+{
+    grant.handset.as_bytes() == b"alpha".as_slice()
+        && grant.set == 1
+        && grant.level == 8
+        && grant.candidate.is_none()
+        && grant.symbol.is_none()
+        && is_10(grant.format)
+}
+
+/// The fields of a first grant, where it is one.
+fn fields_of(grant: &Grant) -> Option<FirstGrant>
+    ensures fields { result ≡ fields_of grant.now }
+    ensures range { IfSome result IsInRange }
+{
+    if is_first_place(grant) {
+        first_fields(grant.given.as_slice())
     } else {
         None
+    }
+}
+
+/// The grant of first grants; `None` exactly where they are others.
+#[tactic(auto, unfolding(crate::specs::FirstGrants::first_grant_of))]
+pub fn first_grant_of(list: &GrantList) -> Option<FirstGrant>
+    ensures grant { result ≡ first_grant_of list.now }
+    ensures range { IfSome result IsInRange }
+{
+    if list.frame != 0 || list.slot != 0 {
+        return None;
+    }
+    match list.grants.as_slice() {
+        [grant] => fields_of(grant),
+        _ => None,
     }
 }

@@ -1,13 +1,12 @@
 //! What a handset heard at a watch.
-use crate::fields::{FieldValue, Format};
-use arrayvec::ArrayVec;
+use dci_fields::{FieldValue, Format, Values};
 use std::marker::Model;
 
 /// A format that was heard, with its shown fields in order.
 #[derive(Debug, Drop)]
 pub struct Heard {
     format: Format,
-    fields: ArrayVec<FieldValue, 32>,
+    fields: Values,
 }
 
 impl Model for Heard {
@@ -15,15 +14,15 @@ impl Model for Heard {
 
     ghost Value = { Entry };
 
-    ghost view = { λ h. record { format = h.format; fields = h.fields.items } };
+    ghost view = { λ h. record { format = h.format; fields = h.fields } };
 }
 
 impl Heard {
     ghost use Rattle.std.specs.Prelude.{◌≡◌};
 
     /// A format with its shown fields.
-    pub fn new(format: Format, fields: ArrayVec<FieldValue, 32>) -> Heard
-        ensures { result ≡ record { format = format; fields = fields.items } }
+    pub fn new(format: Format, fields: Values) -> Heard
+        ensures { result ≡ record { format = format; fields = fields } }
     {
         Heard { format, fields }
     }
@@ -39,6 +38,6 @@ impl Heard {
     pub fn fields(&self) -> &[FieldValue]
         ensures { result.now ≡ self.now.fields }
     {
-        self.fields.as_slice()
+        self.fields.entries()
     }
 }

@@ -2,7 +2,7 @@
 //! functions with nothing to do.
 ghost use Rattle.pdcch_app.specs.FirstGrid.{ReadsEach, ReadsNoOther};
 ghost use Rattle.pdcch_app.specs.Hearing.{FindsWhatIsSpelled};
-ghost use Rattle.pdcch_app.specs.Promises.{EndsAsReadFault, EndsAsWriteFault, RefusesSilently, RefusesWords, WritesFirstForms, SearchesFirstForms};
+ghost use Rattle.pdcch_app.specs.Promises.{EndsAsReadFault, EndsAsWriteFault, RefusesSilently, RefusesWords, WritesFirstCells, SearchesFirstCells};
 
 /// A fault of the shelf never ends as another refusal, and never as a job that was done.
 pub fn ends_as_read_fault()
@@ -24,14 +24,14 @@ pub fn refuses_words()
     ensures { RefusesWords }
 {}
 
-/// Four files of their first forms give the text of one grid.
-pub fn writes_first_forms()
-    ensures { WritesFirstForms }
+/// Legal settings of a first cell, any two tables and first grants give the text of one grid.
+pub fn writes_first_cells()
+    ensures { WritesFirstCells }
 {}
 
-/// Four files of their first forms, the last a grid, give the report of what it spells.
-pub fn searches_first_forms()
-    ensures { SearchesFirstForms }
+/// Legal settings of a first cell, any two tables and a first grid give the report of what it spells.
+pub fn searches_first_cells()
+    ensures { SearchesFirstCells }
 {}
 
 /// Each grid of frame 0, slot 0, numerology 1 and 51 blocks is read from its text.

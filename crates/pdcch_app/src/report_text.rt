@@ -2,17 +2,13 @@
 ghost use Rattle.std.specs.Prelude.{◌≡◌, ◌++◌, ◌<◌, IfOk, OnOk, codes};
 ghost use Rattle.std.specs.List.{flat_map};
 ghost use Rattle.pdcch_app.specs.Report.{slot_line, handset_line, hex_digit, hex_word, field_text, heard_line, report};
-ghost use Rattle.pdcch_app.specs.Written.{first_watch};
 
 use crate::decimal_text::push_number;
-use crate::fields::FieldValue;
-use crate::first_cell::FirstCell;
 use crate::heard::Heard;
+use crate::watch::Watch;
+use dci_fields::FieldValue;
 use slot_grid::Grid;
 use std::alloc::{AllocError, Global};
-
-#[cfg(test)]
-mod tests;
 
 /// The name of the handset of the first settings.
 const HANDSET: &[u8] = b"alpha";
@@ -99,23 +95,23 @@ fn push_fields(alloc: Global, text: &mut Vec<u8>, fields: &[FieldValue]) -> Resu
     Ok(())
 }
 
-/// The line of what was heard at the cell's watch.
+/// The line of what was heard at a watch.
 #[tactic(auto, unfolding(crate::specs::Report::heard_line))]
-fn heard_line(alloc: Global, cell: &FirstCell, heard: &Heard) -> Result<Vec<u8>, AllocError>
-    ensures { IfOk result (λ text. text.items ≡ heard_line (first_watch cell.now) heard.now.format heard.now.fields) }
+fn heard_line(alloc: Global, watch: &Watch, heard: &Heard) -> Result<Vec<u8>, AllocError>
+    ensures { IfOk result (λ text. text.items ≡ heard_line watch.now heard.now.format heard.now.fields) }
 {
     let mut text = Vec::from_slice(alloc, b"set ")?;
-    push_number(alloc, &mut text, 1)?;
+    push_number(alloc, &mut text, watch.set)?;
     text.extend_from_slice(b" symbol ")?;
-    push_number(alloc, &mut text, 0)?;
+    push_number(alloc, &mut text, u16::from(watch.symbol))?;
     text.extend_from_slice(b" level ")?;
-    push_number(alloc, &mut text, 8)?;
+    push_number(alloc, &mut text, u16::from(watch.level))?;
     text.extend_from_slice(b" candidate ")?;
-    push_number(alloc, &mut text, 0)?;
+    push_number(alloc, &mut text, u16::from(watch.candidate))?;
     text.extend_from_slice(b" size ")?;
-    push_number(alloc, &mut text, 39)?;
+    push_number(alloc, &mut text, watch.size)?;
     text.extend_from_slice(b" rnti ")?;
-    push_hex_word(&mut text, cell.rnti)?;
+    push_hex_word(&mut text, watch.rnti)?;
     text.push(b' ')?;
     text.extend_from_slice(heard.format().word())?;
     push_fields(alloc, &mut text, heard.fields())?;
@@ -123,22 +119,22 @@ fn heard_line(alloc: Global, cell: &FirstCell, heard: &Heard) -> Result<Vec<u8>,
     Ok(text)
 }
 
-/// The report of the grid's slot: the slot, then the handset of the cell with its one watch, and what it heard there.
+/// The report of the grid's slot: the slot, then the handset with its one watch, and what it heard there.
 #[tactic(auto, unfolding(crate::specs::Report::report))]
 pub fn report_text(
     alloc: Global,
     grid: &Grid,
-    cell: &FirstCell,
+    watch: &Watch,
     heard: &Option<Heard>,
 ) -> Result<Vec<u8>, AllocError>
-    ensures { IfOk result (λ text. text.items ≡ report grid.now (codes "alpha") (first_watch cell.now) heard.now) }
+    ensures { IfOk result (λ text. text.items ≡ report grid.now (codes "alpha") watch.now heard.now) }
 {
     let mut text = slot_line(alloc, grid.frame(), grid.slot())?;
     match heard {
         None => push_handset(alloc, &mut text, HANDSET, 1, 0)?,
         Some(heard) => {
             push_handset(alloc, &mut text, HANDSET, 1, 1)?;
-            text.extend_from_slice(heard_line(alloc, cell, heard)?.as_slice())?;
+            text.extend_from_slice(heard_line(alloc, watch, heard)?.as_slice())?;
         }
     }
     Ok(text)

@@ -1,5 +1,5 @@
 //! Why a run stops before its job is done.
-ghost use Rattle.std.specs.Prelude.{◌≡◌, ◌++◌, ◌∷◌, [], true, false, IfOk};
+ghost use Rattle.std.specs.Prelude.{◌≡◌, ◌++◌, true, false, IfOk};
 ghost use Rattle.pdcch_app.specs.declared.stop.Stop.TheVariants.{OutOfMemory};
 ghost use Rattle.pdcch_app.specs.Outcome.{is_done, is_cause, refused};
 ghost use Rattle.pdcch_app.specs.Steps.{IsStop};
@@ -43,12 +43,23 @@ impl From<NoMemory> for Stop {
 }
 
 fn line_of(alloc: Global, text: &[u8], name: &str) -> Result<Vec<u8>, AllocError>
-    ensures { IfOk result (λ line. line.items ≡ text.now ++ name.now ++ 10 ∷ []) }
+    ensures { IfOk result (λ line. line.items ≡ text.now ++ name.now) }
 {
     let mut line = Vec::from_slice(alloc, text)?;
     line.extend_from_slice(name.as_bytes())?;
-    line.push(b'\n')?;
     Ok(line)
+}
+
+/// The refusal with a status and one line, which is given without its line feed.
+pub fn refusal_of(alloc: Global, status: Status, mut line: Vec<u8>) -> Stop
+    requires cause { is_cause status ≡ true }
+    requires refusal { is_done status ≡ false }
+    ensures { IsStop (refused status line.items) result }
+{
+    match line.push(b'\n') {
+        Ok(()) => Stop::Ended(Answer::new(status, Vec::new(alloc), line)),
+        Err(_) => Stop::OutOfMemory,
+    }
 }
 
 /// The refusal with a status and one line, which ends in the name.
@@ -58,7 +69,7 @@ pub fn refusal(alloc: Global, status: Status, text: &[u8], name: &str) -> Stop
     ensures { IsStop (refused status (text.now ++ name.now)) result }
 {
     match line_of(alloc, text, name) {
-        Ok(line) => Stop::Ended(Answer::new(status, Vec::new(alloc), line)),
+        Ok(line) => refusal_of(alloc, status, line),
         Err(_) => Stop::OutOfMemory,
     }
 }

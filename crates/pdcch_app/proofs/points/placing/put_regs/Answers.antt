@@ -1,9 +1,0 @@
-use Rattle.std.proofs.Common.{arith}
-use Rattle.pdcch_app.proofs.RegPuts.{one_reg_more}
-use Rattle.pdcch_app.proofs.points.placing.put_regs.Goals as goal
-
-pub loop-j-preserved : goal.loop-j-preserved
-loop-j-preserved c =
-    let a = c.args in
-    one_reg_more a.first a.id a.regs.now a.bits.now c.loop-j.j a.grid.now c.loop-j.grid c.put_reg.new.grid c.requires.regs c.requires.inside
-    (omega arith) c.loop-j.invariant c.put_reg.ensures

@@ -1,5 +1,0 @@
-use Rattle.pdcch_app.specs.Placed.{AreRegsPut}
-use Rattle.pdcch_app.proofs.points.placing.put_regs.Given as goal
-
-abbrev pub invariant-loop-j : goal.invariant-loop-j
-invariant-loop-j l = AreRegsPut l.first l.id l.regs l.bits l.j l.initial.grid l.grid

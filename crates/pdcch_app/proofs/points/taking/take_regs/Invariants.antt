@@ -1,5 +1,0 @@
-use Rattle.pdcch_app.specs.Taken.{ArePointsTaken}
-use Rattle.pdcch_app.proofs.points.taking.take_regs.Given as goal
-
-abbrev pub invariant-loop-place : goal.invariant-loop-place
-invariant-loop-place l = ArePointsTaken l.grid l.first l.id l.regs l.bits l.place

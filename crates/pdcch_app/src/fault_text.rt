@@ -1,0 +1,156 @@
+//! The lines that say what is wrong with the settings, a table or the grants.
+ghost use Rattle.std.specs.Prelude.{◌≡◌, ◌++◌, IfOk, OnOk};
+ghost use Rattle.std.specs.List.{flat_map};
+ghost use Rattle.std.specs.Fmt.{decimal};
+ghost use Rattle.pdcch_app.specs.FaultText.{reason_text, step_text, further, place_text, settings_line, table_fault_text, table_line, grant_place_text, grants_line};
+
+use crate::decimal_text::push_number;
+use grant_file::{GrantFault, GrantKey, GrantPlace};
+use rrc_settings::{Reason, SettingsFault, Step};
+use std::alloc::{AllocError, Global};
+use table_files::TableFault;
+
+/// Why a value is at fault, in words.
+pub fn reason_text(reason: Reason) -> &'static str
+    ensures { result.now ≡ reason_text reason }
+{
+    match reason {
+        Reason::NotJson => "not json",
+        Reason::Missing => "missing",
+        Reason::Unknown => "unknown",
+        Reason::WrongKind => "wrong kind",
+        Reason::OutOfRange => "out of range",
+        Reason::Conflict => "conflict",
+    }
+}
+
+/// Appends the word of a key or the number of an element.
+fn push_step(alloc: Global, text: &mut Vec<u8>, step: &Step) -> Result<(), AllocError>
+    ensures { OnOk result (text.new.items ≡ text.old.items ++ step_text step.now) }
+{
+    match step {
+        Step::Key(key) => text.extend_from_slice(key.word()),
+        Step::Index(index) => push_number(alloc, text, *index),
+    }
+}
+
+/// Appends a further step.
+#[tactic(auto, unfolding(crate::specs::FaultText::further))]
+fn push_further(alloc: Global, text: &mut Vec<u8>, step: &Step) -> Result<(), AllocError>
+    ensures { OnOk result (text.new.items ≡ text.old.items ++ further step.now) }
+{
+    text.push(b'/')?;
+    push_step(alloc, text, step)
+}
+
+/// Appends further steps.
+fn push_all_further(alloc: Global, text: &mut Vec<u8>, steps: &[Step]) -> Result<(), AllocError>
+    ensures { OnOk result (text.new.items ≡ text.old.items ++ flat_map further steps.now) }
+{
+    for step in steps {
+        push_further(alloc, text, step)?;
+    }
+    Ok(())
+}
+
+/// Appends the place of a value: its steps with slashes between, or the whole file.
+fn push_place(alloc: Global, text: &mut Vec<u8>, steps: &[Step]) -> Result<(), AllocError>
+    ensures { OnOk result (text.new.items ≡ text.old.items ++ place_text steps.now) }
+{
+    match steps {
+        [] => text.extend_from_slice(b"file"),
+        [step, later @ ..] => {
+            push_step(alloc, text, step)?;
+            push_all_further(alloc, text, later)
+        }
+    }
+}
+
+/// The line on a fault of the settings, without its line feed.
+#[tactic(auto, unfolding(crate::specs::FaultText::settings_line))]
+pub fn settings_line(alloc: Global, fault: &SettingsFault) -> Result<Vec<u8>, AllocError>
+    ensures { IfOk result (λ text. text.items ≡ settings_line fault.now) }
+{
+    let mut text = Vec::from_slice(alloc, b"error: settings: ")?;
+    push_place(alloc, &mut text, fault.place.steps.as_slice())?;
+    text.extend_from_slice(b": ")?;
+    text.extend_from_slice(reason_text(fault.reason).as_bytes())?;
+    Ok(text)
+}
+
+/// Appends a byte place in decimal digits.
+fn push_byte_place(alloc: Global, text: &mut Vec<u8>, at: usize) -> Result<(), AllocError>
+    ensures { OnOk result (text.new.items ≡ text.old.items ++ decimal at) }
+{
+    let digits = format!(in alloc; "{at}")?;
+    text.extend_from_slice(digits.as_bytes())
+}
+
+/// Appends what is wrong with a table.
+fn push_table_fault(alloc: Global, text: &mut Vec<u8>, fault: TableFault) -> Result<(), AllocError>
+    ensures { OnOk result (text.new.items ≡ text.old.items ++ table_fault_text fault) }
+{
+    match fault {
+        TableFault::BadByte { at } => {
+            text.extend_from_slice(b"bad byte at ")?;
+            push_byte_place(alloc, text, at)
+        }
+        TableFault::TooLarge { at, value } => {
+            text.extend_from_slice(b"value ")?;
+            push_number(alloc, text, value)?;
+            text.extend_from_slice(b" at ")?;
+            push_byte_place(alloc, text, at)?;
+            text.extend_from_slice(b" too large")
+        }
+        TableFault::Repeated { value } => {
+            text.extend_from_slice(b"value ")?;
+            push_number(alloc, text, value)?;
+            text.extend_from_slice(b" repeated")
+        }
+        TableFault::Count { found } => {
+            push_number(alloc, text, found)?;
+            text.extend_from_slice(b" values")
+        }
+    }
+}
+
+/// The line on a fault of a table, behind the words that say which one, without its line feed.
+#[tactic(auto, unfolding(crate::specs::FaultText::table_line))]
+pub fn table_line(alloc: Global, words: &[u8], fault: TableFault) -> Result<Vec<u8>, AllocError>
+    ensures { IfOk result (λ text. text.items ≡ table_line words.now fault) }
+{
+    let mut text = Vec::from_slice(alloc, words)?;
+    push_table_fault(alloc, &mut text, fault)?;
+    Ok(text)
+}
+
+/// Appends the place of a value in a list of grants.
+fn push_grant_place(alloc: Global, text: &mut Vec<u8>, place: &GrantPlace) -> Result<(), AllocError>
+    ensures { OnOk result (text.new.items ≡ text.old.items ++ grant_place_text place.now.grant place.now.key) }
+{
+    match (place.grant, place.key) {
+        (None, GrantKey::Whole) => text.extend_from_slice(b"file"),
+        (None, key) => text.extend_from_slice(key.word()),
+        (Some(grant), key) => {
+            text.extend_from_slice(b"grants/")?;
+            push_number(alloc, text, grant)?;
+            if key == GrantKey::Whole {
+                return Ok(());
+            }
+            text.push(b'/')?;
+            text.extend_from_slice(key.word())
+        }
+    }
+}
+
+/// The line on a fault of the grants, without its line feed.
+#[tactic(auto, unfolding(crate::specs::FaultText::grants_line))]
+pub fn grants_line(alloc: Global, fault: &GrantFault) -> Result<Vec<u8>, AllocError>
+    ensures { IfOk result (λ text. text.items ≡ grants_line fault.now) }
+{
+    let mut text = Vec::from_slice(alloc, b"error: grants: ")?;
+    push_grant_place(alloc, &mut text, &fault.place)?;
+    text.extend_from_slice(b": ")?;
+    text.extend_from_slice(reason_text(fault.reason).as_bytes())?;
+    Ok(text)
+}
