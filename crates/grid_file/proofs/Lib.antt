@@ -12,3 +12,6 @@ pub mod Exits
 pub mod HeadSteps
 pub mod Placing
 pub mod OneText
+pub mod SharedTexts
+pub mod BlankGrids
+pub mod FoundGrids

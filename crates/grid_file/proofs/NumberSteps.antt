@@ -8,7 +8,7 @@ use Rattle.std.proofs.lemmas.List.{append-nil, drop_more, get_or-drop}
 use Rattle.std.proofs.lemmas.Fmt.{decimal_digit, decimal_nonempty, decimal_injective}
 use Rattle.std.specs.Fmt.{decimal}
 use Rattle.grid_file.specs.Bytes.{IsDigit, digit_of}
-use Rattle.grid_file.specs.Fields.{IsField, IsRange, LeavesField, LeavesFieldAt}
+use Rattle.grid_file.specs.Fields.{IsRange, LeavesField, LeavesFieldAt}
 use Rattle.grid_file.proofs.Digits.{digits-decimal, GoesOn, run_goes_on, begins-le, decimal-longer, first_zero}
 
 no_digit : (byte : ℕ) → digit_of byte ≡ None → IsDigit byte → ⊥
@@ -63,17 +63,6 @@ number_more bytes at least limit value next digit most h e inside some high =
 
 plus_none : (n : ℕ) → n + 0 ≡ n
 plus_none n = omega arith
-
-pub number_done : (bytes : List ℕ) (at least limit value next : ℕ) → NumberSoFar bytes at least limit value next → digit_of (get_or bytes next 0) ≡ None
-    → least ≤ value → IsField [] bytes at least limit value next
-number_done bytes at least limit value next h e low = record {
-  within = h.within;
-  far = h.far;
-  is = h.is;
-  low = low;
-  high = h.high;
-  ends = λ digit. no_digit (get_or bytes next 0) e (subst IsDigit (get_or-drop next bytes 0 0 ∙ ap (λ i. get_or bytes i 0) (plus_none next)) digit);
-}
 
 nothing_left : (n : ℕ) → n - n ≡ 0
 nothing_left n = omega arith

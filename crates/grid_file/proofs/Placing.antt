@@ -28,15 +28,6 @@ keeps_more symbol subcarrier point first old new h put = record {
   size = put.size ∙ h.size;
 }
 
-pub keeps_both : (a b c : GridValue) → KeepsNumbers a b → KeepsNumbers b c → KeepsNumbers a c
-keeps_both a b c h k = record {
-  mu = k.mu ∙ h.mu;
-  frame = k.frame ∙ h.frame;
-  slot = k.slot ∙ h.slot;
-  blocks = k.blocks ∙ h.blocks;
-  size = k.size ∙ h.size;
-}
-
 -- the bytes leave the pattern within a place of it
 leaves_there : (blocks : ℕ) (bytes : List ℕ) (start k : ℕ) → k < length (rest_pattern blocks) → FitsBefore (rest_pattern blocks) (drop start bytes) k
     → (k < length (drop start bytes) → IsTrue (fits (get_or (rest_pattern blocks) k 0) (get_or (drop start bytes) k 0)) → ⊥)

@@ -1,53 +1,14 @@
 -- Words, byte by byte, and a word before a number.
-use Rattle.std.proofs.Common.{◌≡◌, ℕ, ◌+◌, ◌-◌, ◌<◌, ◌≤◌, List, [], ◌++◌, length, take, drop, get_or, refl, sym, ◌∙◌, ap, subst, arith, length-append, append_assoc}
+use Rattle.std.proofs.Common.{◌≡◌, ℕ, ◌+◌, ◌-◌, ◌<◌, ◌≤◌, List, [], ◌++◌, length, take, drop, sym, ◌∙◌, ap, subst, arith, length-append, append_assoc}
 use Rattle.std.proofs.Math.Seq.{take-append-add}
-use Rattle.std.proofs.lemmas.List.{append_cancel_left, length-drop, take_all, take-append-drop, take_more_same, drop-drop, get_or-drop, get_or_append_left, get_or-append-add}
+use Rattle.std.proofs.lemmas.List.{append_cancel_left, length-drop, take-append-drop, get_or_append_left, get_or-append-add}
 use Rattle.std.specs.Fmt.{decimal}
-use Rattle.grid_file.specs.Fields.{AgreesPast, IsWord, LeavesWord, IsField, LeavesField, LeavesFieldAt}
+use Rattle.grid_file.specs.Fields.{AgreesPast, IsWord, LeavesWord, LeavesField, LeavesFieldAt}
 
 -- the first n bytes of a word stand at a place
 pub record WordSoFar (bytes : List ℕ) (at : ℕ) (word : List ℕ) (n : ℕ) : Type 0 where
   pub within : at + n ≤ length bytes
   pub same : take n (drop at bytes) ≡ take n word
-
-pub word_none : (bytes : List ℕ) (at : ℕ) (word : List ℕ) → at ≤ length bytes → WordSoFar bytes at word 0
-word_none bytes at word h = record { within = omega arith; same = refl }
-
-pub word_more : (bytes : List ℕ) (at : ℕ) (word : List ℕ) (n byte : ℕ) → WordSoFar bytes at word n → n < length word → byte ≡ get_or word n 0
-    → (at + n < length bytes) × (get_or bytes (at + n) 0 ≡ byte) → WordSoFar bytes at word (n + 1)
-word_more bytes at word n byte h inside is there =
-    let left : length (drop at bytes) ≡ length bytes - at = length-drop at bytes in
-    record {
-      within = omega (arith, there.0);
-      same =
-          take_more_same (drop at bytes) word n 0 (omega (arith, there.0)) inside h.same
-          (get_or-drop at bytes n 0 ∙ there.1 ∙ is);
-    }
-
-pub word_done : (bytes : List ℕ) (at : ℕ) (word : List ℕ) (n : ℕ) → WordSoFar bytes at word n → n ≡ length word → IsWord bytes at word (at + length word)
-word_done bytes at word n h all = record {
-  within = omega (arith, h.within);
-  far = refl;
-  is =
-      sym (take-append-drop n (drop at bytes)) ∙ ap (λ xs. xs ++ drop n (drop at bytes)) (h.same ∙ take_all n word (omega arith))
-      ∙ ap (λ xs. word ++ xs) (drop-drop n at bytes) ∙ ap (λ m. word ++ drop (at + m) bytes) all;
-}
-
-pub word_left : (bytes : List ℕ) (at : ℕ) (word : List ℕ) (n byte : ℕ) → WordSoFar bytes at word n → n < length word → byte ≡ get_or word n 0
-    → ((at + n < length bytes) × (get_or bytes (at + n) 0 ≡ byte) → ⊥) → LeavesWord word bytes at (at + n)
-word_left bytes at word n byte h inside is other =
-    let here : at + n - at ≡ n = omega arith in
-    record {
-      least = omega arith;
-      inside = omega arith;
-      within = h.within;
-      before = ap (λ m. take m (drop at bytes)) here ∙ h.same ∙ ap (λ m. take m word) (sym here);
-      there = λ l e.
-          other (
-            l,
-            sym (get_or-drop at bytes n 0) ∙ ap (λ m. get_or (drop at bytes) m 0) (sym here) ∙ e ∙ ap (λ m. get_or word m 0) here ∙ sym is,
-          );
-    }
 
 -- bytes that leave the word leave the field
 pub word_leaves : (word : List ℕ) (least limit : ℕ) (bytes : List ℕ) (at place : ℕ) → least < limit → LeavesWord word bytes at place
@@ -120,14 +81,3 @@ leaves_number word least limit bytes at middle place is leaves =
           (subst (λ m. LeavesField word least limit (word ++ drop middle bytes) m) here
           (leaves_behind word least limit (drop middle bytes) (place - middle) leaves.leaves));
     }
-
-pub field_is : (word : List ℕ) (least limit : ℕ) (bytes : List ℕ) (at middle value next : ℕ) → IsWord bytes at word middle
-    → IsField [] bytes middle least limit value next → IsField word bytes at least limit value next
-field_is word least limit bytes at middle value next is field = record {
-  within = field.within;
-  far = omega (arith, is.far, field.far, length-append word (decimal value));
-  is = is.is ∙ ap (λ xs. word ++ xs) field.is ∙ sym (append_assoc word (decimal value) (drop next bytes));
-  low = field.low;
-  high = field.high;
-  ends = field.ends;
-}

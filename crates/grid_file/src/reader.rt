@@ -1,6 +1,7 @@
 //! The reading of a grid from its text.
 ghost use Rattle.std.specs.Prelude.{◌≡◌, ◌⊎◌, ℕ, Ok, Err, IfOk, IfErr};
 ghost use Rattle.slot_grid.specs.Grid.{GridValue};
+ghost use Rattle.grid_file.specs.FoundGrid.{reading_of, IsReading};
 ghost use Rattle.grid_file.specs.GridText.{IsGridText, IsTextOf};
 ghost use Rattle.grid_file.specs.LeavingPlace.{LeavesAt};
 ghost use Rattle.grid_file.specs.Outcome.{IsWhy, fault_at};
@@ -44,6 +45,7 @@ pub fn read_grid(alloc: Global, bytes: &[u8]) -> Result<Grid, GridError>
     ensures no_text { (at : ℕ) → LeavesAt IsGridText bytes.now at → (result ≡ Err NoMemory) ⊎ (result ≡ Err (fault_at at)) }
     ensures read { (grid : GridValue) → result ≡ Ok grid → IsTextOf grid bytes.now }
     ensures fault { (at : ℕ) → result ≡ Err (fault_at at) → LeavesAt IsGridText bytes.now at }
+    ensures found { IsReading (reading_of bytes.now) result }
 {
     grid_in(alloc, bytes)
 }

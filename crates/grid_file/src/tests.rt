@@ -1,7 +1,7 @@
 //! Faults whose places a second program worked out from the sets of numbers alone, and a grid that a second program made.
 
 use crate::{GridError, GridFault, read_grid, write_grid};
-use slot_grid::Point;
+use slot_grid::{Grid, Point};
 use std::alloc::{AllocError, Global};
 use std::test::Fail;
 
@@ -147,5 +147,28 @@ fn a_byte_changed_or_the_text_cut(rt: HostRuntime) -> Result<(), Fail> {
     }
     text.push(b'\n')?;
     assert_eq!(rt; read_grid(alloc, &text).err(), fault(8631));
+    Ok(())
+}
+
+/// The text of a grid with no point has 8,799 bytes where it has 52 blocks.
+#[test]
+fn a_grid_with_no_point(rt: HostRuntime) -> Result<(), Fail> {
+    let alloc = rt.alloc();
+    let Ok(grid) = Grid::blank(alloc, 1, 0, 0, 52) else {
+        return Err(Fail::new("no grid"));
+    };
+    let mut text = Vec::from_slice(alloc, b"nrpdcch grid 1\nmu 1 frame 0 slot 0 blocks 52\n")?;
+    for _ in 0..14u8 {
+        for _ in 0..624u16 {
+            text.push(b'.')?;
+        }
+        text.push(b'\n')?;
+    }
+    text.extend_from_slice(b"end\n")?;
+    let Ok(written) = write_grid(alloc, &grid) else {
+        return Err(Fail::new("not written"));
+    };
+    assert_eq!(rt; written.len(), 8799);
+    assert_eq!(rt; written.as_slice(), text.as_slice());
     Ok(())
 }

@@ -1,3 +1,4 @@
+use Rattle.grid_file.proofs.FoundGrids.{is_reading}
 use Rattle.grid_file.proofs.OneText.{fault_leaves, no_text_answers, read_is_text, text_answers}
 use Rattle.grid_file.proofs.reader.read_grid.Goals as goal
 
@@ -12,3 +13,6 @@ returns-clause-read c = read_is_text c.args.bytes.now c.grid_in.result c.grid_in
 
 pub returns-clause-fault : goal.returns-clause-fault
 returns-clause-fault c = fault_leaves c.args.bytes.now c.grid_in.result c.grid_in.ensures.why
+
+pub returns-clause-found : goal.returns-clause-found
+returns-clause-found c = is_reading c.args.bytes.now c.grid_in.result c.grid_in.ensures.read c.grid_in.ensures.why
