@@ -1,6 +1,7 @@
 pub mod Conflicts
 pub mod Equality
 pub mod Faults
+pub mod HandsetsOfCell
 pub mod Legal
 pub mod Name
 pub mod Table

@@ -24,6 +24,3 @@ pub use settings::{
     SetKind, UplinkFields,
 };
 pub use words::Key;
-
-#[cfg(test)]
-mod tests;

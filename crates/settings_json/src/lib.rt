@@ -11,8 +11,6 @@ mod leaves;
 mod lists;
 mod objects;
 mod sets;
-#[cfg(test)]
-mod tests;
 mod texts;
 
 pub use cells::read_settings;

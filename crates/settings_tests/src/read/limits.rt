@@ -1,5 +1,5 @@
 //! What is refused by its shape as out of range: numbers above 65,535, forms of texts, lengths of lists.
-use crate::tests::edits::{Edit, LAST_SHAPE, check_in_order};
+use crate::read::edits::{Edit, LAST_SHAPE, check_in_order};
 use std::test::Fail;
 
 /// Numbers of the whole and of bandwidth parts.

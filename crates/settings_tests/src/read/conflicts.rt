@@ -1,5 +1,5 @@
 //! What may not stand together.
-use crate::tests::edits::{Edit, LAST_CONFLICT, check_in_order};
+use crate::read::edits::{Edit, LAST_CONFLICT, check_in_order};
 use std::test::Fail;
 
 /// Conflicts of each kind.

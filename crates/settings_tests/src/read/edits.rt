@@ -1,5 +1,5 @@
 //! Settings of two handsets that are right, and edits that put one or two faults into them.
-use crate::tests::refusal_of;
+use crate::read::refusal_of;
 use std::alloc::Global;
 use std::process::Abort;
 use std::test::Fail;

@@ -1,5 +1,5 @@
 //! Keys that have to be there and are absent, and keys that an object may not have.
-use crate::tests::edits::{Edit, LAST_SHAPE, check_in_order};
+use crate::read::edits::{Edit, LAST_SHAPE, check_in_order};
 use std::test::Fail;
 
 /// Keys of the whole and of a handset. Where another key takes the place, its own value comes later and counts.

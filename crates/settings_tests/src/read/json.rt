@@ -1,7 +1,7 @@
 //! What JSON reads: whole numbers, texts that are no JSON, and settings that are right in other words.
-use crate::read_settings;
-use crate::tests::edits::{Edit, LAST_SHAPE, SETTINGS, check_each, check_in_order};
-use crate::tests::refusal_of;
+use crate::read::edits::{Edit, LAST_SHAPE, SETTINGS, check_each, check_in_order};
+use crate::read::refusal_of;
+use settings_json::read_settings;
 use std::test::Fail;
 
 /// Numbers that are no whole numbers of 16 bits.

@@ -1,8 +1,8 @@
 //! The checks in order, each with a second fault that comes later in the same settings.
 mod draft;
 
-use crate::{Cell, Items, Name, Place, Reason, Step};
 use draft::Draft;
+use rrc_settings::{Cell, Items, Name, Place, Reason, Step};
 use std::alloc::{AllocError, Global};
 use std::process::Abort;
 use std::test::Fail;

@@ -7,12 +7,12 @@ mod kinds;
 mod limits;
 mod passes;
 
-use crate::{SettingsError, read_settings};
 use arrayvec::ArrayVec;
 use rrc_settings::{
     Bwp, Cell, Codebook, Coreset, Handset, Items, Name, RawCell, Reason, SearchSet, SetKind,
     SettingsFault, Step,
 };
+use settings_json::{SettingsError, read_settings};
 use std::alloc::{AllocError, Global};
 use std::test::Fail;
 

@@ -1,5 +1,5 @@
 //! Values of another kind than their keys have.
-use crate::tests::edits::{Edit, LAST_SHAPE, check_each, check_in_order};
+use crate::read::edits::{Edit, LAST_SHAPE, check_each, check_in_order};
 use std::test::Fail;
 
 /// Values of the whole and of handsets.

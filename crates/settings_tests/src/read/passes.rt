@@ -1,5 +1,5 @@
 //! The order of the checks: the walk, and the three passes.
-use crate::tests::edits::{Edit, LAST_CONFLICT, LAST_RANGE, LAST_SHAPE, check_in_order};
+use crate::read::edits::{Edit, LAST_CONFLICT, LAST_RANGE, LAST_SHAPE, check_in_order};
 use std::test::Fail;
 
 /// Faults of every shape, as the walk meets them.

@@ -1,9 +1,9 @@
 //! Settings that are right, ready to be changed.
-use crate::{
+use arrayvec::ArrayVec;
+use rrc_settings::{
     Allocation, Bwp, Codebook, Coreset, DownlinkFields, Handset, Interleave, Items, Name, RawCell,
     SearchSet, SetKind, UplinkFields,
 };
-use arrayvec::ArrayVec;
 use std::alloc::Global;
 use std::process::Abort;
 use std::test::Fail;
