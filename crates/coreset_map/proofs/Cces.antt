@@ -7,7 +7,7 @@ use Rattle.coreset_map.specs.declared.places.Reg.{Reg}
 use Rattle.coreset_map.specs.ControlResources.{Resources, blocks_of, bundle_size, bundle_of, interleaved, cce_regs, cce_count, reg_count, reg_of, AreResources}
 use Rattle.coreset_map.specs.Candidates.{cces_regs}
 use Rattle.coreset_map.specs.Numbers.{number_at, placed_reg}
-use Rattle.coreset_map.proofs.Members.{IsIn, in-map, in-range, in-flat_map, flat_map-in, range-in}
+use Rattle.coreset_map.proofs.Members.{IsIn, in-map, in-range, in-flat_map}
 use Rattle.coreset_map.proofs.Interleaving.{IsSize, bundle-size}
 use Rattle.coreset_map.proofs.Blocks.{length-blocks_of, one-rank}
 use Rattle.coreset_map.proofs.Parts.{same_parts}
@@ -173,11 +173,6 @@ in-cces resources start level reg i =
     let (j, m, k) = in-flat_map (cce_regs resources) reg (range_with_len start level) i in
     let (low, high) = in-range j start level m in
     (j, low, high, k)
-
-pub cces-in : (resources : Resources) (start level j : ℕ) (reg : Reg) → start ≤ j → j < start + level → IsIn reg (cce_regs resources j)
-    → IsIn reg (cces_regs resources start level)
-unfolding cces_regs
-cces-in resources start level j reg low high i = flat_map-in (cce_regs resources) j reg (range_with_len start level) (range-in j start level low high) i
 
 -- the REG at a place from its parts, as the code makes it
 pub placed-from : (resources : Resources) (number duration block q : ℕ) → number ≡ number_at (6 * cce_count resources) resources q

@@ -14,7 +14,8 @@ use Rattle.rrc_settings.specs.Table.{coreset_ranges}
 use Rattle.rrc_settings.specs.Conflicts.{has_bit, end_of, group_count, group_end, reaches_outside, coreset_conflicts}
 use Rattle.rrc_settings.specs.Legal.{IsLegal}
 use Rattle.coreset_map.specs.ControlResources.{group_block, GoesWith, AreBelow, AreResources}
-use Rattle.coreset_map.specs.ResourcesOfCell.{no_handset, no_coreset, handset_at, coreset_at, groups_of, interleaver_in, resources_in, resources_of}
+use Rattle.rrc_settings.specs.HandsetsOfCell.{no_handset, handset_at}
+use Rattle.coreset_map.specs.ResourcesOfCell.{no_coreset, coreset_at, groups_of, interleaver_in, resources_in, resources_of}
 use Rattle.coreset_map.proofs.Members.{IsIn, in-filter, in-range, at-in, range-in}
 use Rattle.coreset_map.proofs.Rising.{Rising, rising-filter, rising-range, rising-at}
 use Rattle.coreset_map.proofs.Bits.{groups_below, groups-all}

@@ -4,7 +4,8 @@ use Rattle.rrc_settings.specs.declared.settings.RawCell.{RawCell}
 use Rattle.rrc_settings.specs.Legal.{IsLegal}
 use Rattle.coreset_map.specs.declared.places.Reg.{Reg}
 use Rattle.coreset_map.specs.ControlResources.{cce_count, cce_regs}
-use Rattle.coreset_map.specs.ResourcesOfCell.{handset_at, resources_of}
+use Rattle.rrc_settings.specs.HandsetsOfCell.{handset_at}
+use Rattle.coreset_map.specs.ResourcesOfCell.{resources_of}
 
 -- different CCEs of a control resource set share no REG
 abbrev pub CcesAreApart : Type 0

@@ -1,36 +1,18 @@
 -- The control resource set that the settings of a cell describe (3GPP TS 38.331, `ControlResourceSet`; TS 38.211, 7.3.2.2).
-use Rattle.std.specs.Prelude.{ℕ, [], List, None, option_map, unwrap_or, slice_index_or}
+use Rattle.std.specs.Prelude.{ℕ, List, None, option_map, unwrap_or, slice_index_or}
 use Rattle.std.specs.List.{range_with_len, filter}
 use Rattle.rrc_settings.specs.Conflicts.{has_bit}
+use Rattle.rrc_settings.specs.HandsetsOfCell.{handset_at}
 use Rattle.rrc_settings.specs.declared.settings.RawCell.{RawCell}
 use Rattle.rrc_settings.specs.declared.settings.Handset.{Handset}
 use Rattle.rrc_settings.specs.declared.settings.Coreset.{Coreset}
 use Rattle.rrc_settings.specs.declared.settings.Interleave.{Interleave}
-use Rattle.rrc_settings.specs.declared.settings.Codebook.TheVariants.{SemiStatic}
 use Rattle.coreset_map.specs.declared.interleaver.Interleaver.{Interleaver}
 use Rattle.coreset_map.specs.ControlResources.{Resources}
-
--- a handset with nothing set
-abbrev pub no_handset : Handset
-no_handset = record {
-  name = [];
-  rnti = 0;
-  downlink = record { start = 0; size = 0 };
-  uplink = record { start = 0; size = 0 };
-  codebook = SemiStatic;
-  coresets = record { items = [] };
-  sets = record { items = [] };
-  uplink_fields = None;
-  downlink_fields = None;
-}
 
 -- a CORESET with nothing set
 abbrev pub no_coreset : Coreset
 no_coreset = record { number = 0; groups = 0; duration = 0; interleave = None; dmrs_id = None }
-
--- a handset of a cell, by its place in the list
-abbrev pub handset_at : RawCell → ℕ → Handset
-handset_at cell handset = slice_index_or cell.handsets handset no_handset
 
 -- a CORESET of a handset, by its place in the list
 abbrev pub coreset_at : Handset → ℕ → Coreset

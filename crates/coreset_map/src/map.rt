@@ -5,7 +5,8 @@ ghost use Rattle.coreset_map.specs.Candidates.{candidate_regs};
 ghost use Rattle.coreset_map.specs.ControlResources.{blocks_of, cce_count, cce_regs, AreBelow, AreResources};
 ghost use Rattle.coreset_map.specs.Numbers.{number_at, placed_reg};
 ghost use Rattle.coreset_map.specs.RegOrder.{AreRegs, AreWithin};
-ghost use Rattle.coreset_map.specs.ResourcesOfCell.{handset_at, groups_of, interleaver_in, resources_in, resources_of};
+ghost use Rattle.rrc_settings.specs.HandsetsOfCell.{handset_at};
+ghost use Rattle.coreset_map.specs.ResourcesOfCell.{groups_of, interleaver_in, resources_in, resources_of};
 
 use crate::Reg;
 use crate::interleaver::{Interleaver, bundle_at, bundle_size};

@@ -1,4 +1,4 @@
--- The parity bits of a payload and their mask: 3GPP TS 38.212, 5.1 (CRC24C), 7.3.2 and 7.3.3.
+-- The parity bits of a payload and their mask: 3GPP TS 38.212, 5.1 (CRC24C) and 7.3.2.
 use Rattle.std.specs.Prelude.{ℕ, zero, suc, ◌+◌, ◌-◌, Bool, true, false, ◌&&◌, eqb, List, [], ◌∷◌, ◌++◌, length, map, replicate}
 use Rattle.std.specs.List.{range_with_len, list_any}
 use Rattle.bits_core.specs.Bits.{plus, sum_below, bit_of, bits_of}

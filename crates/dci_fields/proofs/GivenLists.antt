@@ -1,11 +1,10 @@
 -- Values that are asked for: which rows they are of, and that known ones settle values that fit.
-use Rattle.std.proofs.Common.{◌≡◌, ◌≢◌, ℕ, zero, suc, ◌+◌, ◌-◌, ◌*◌, ◌/◌, ◌^◌, ◌<◌, ◌≤◌, Bool, true, false, not, ◌&&◌, ◌||◌, inl, inr, cond, nat_lt, List, [], ◌∷◌, ◌++◌, Option, Some, None, length, map, get_or, take, drop, find, option_map, slice_get, refl, ap, sym, subst, ◌∙◌, arith}
+use Rattle.std.proofs.Common.{◌≡◌, ℕ, zero, suc, ◌+◌, ◌-◌, ◌*◌, ◌/◌, ◌^◌, ◌<◌, ◌≤◌, Bool, true, false, not, ◌&&◌, inl, inr, cond, nat_lt, List, [], ◌∷◌, Option, Some, None, length, map, get_or, find, option_map, slice_get, refl, ap, sym, subst, ◌∙◌, arith}
 use Rattle.std.specs.List.{list_all}
 use Rattle.std.proofs.lemmas.Bool.{and_parts, and_from, cases_Bool, cases_order, lt-ltb}
-use Rattle.std.proofs.lemmas.List.Folds.{list_all_at}
 use Rattle.std.proofs.Math.Nat.{lt-mul-div-succ}
 use Rattle.std.proofs.lemmas.Nat.{pow_pos}
-use Rattle.std.proofs.lemmas.Option.{slice_get-get_or, get_or_from_slice_get}
+use Rattle.std.proofs.lemmas.Option.{get_or_from_slice_get}
 use Rattle.dci_fields.specs.declared.formats.Format.{Format}
 use Rattle.dci_fields.specs.declared.formats.Format.TheVariants.{F00, F10, Order, F01, F11}
 use Rattle.dci_fields.specs.declared.names.FieldName.{FieldName}
@@ -15,7 +14,7 @@ use Rattle.dci_fields.specs.declared.fault.Given.{Given}
 use Rattle.dci_fields.specs.Formats.{identifier_of}
 use Rattle.dci_fields.specs.SameNames.{same_name}
 use Rattle.dci_fields.specs.FieldLists.{BeginsWithIdentifier, are_apart, AreNarrow, IsFieldList}
-use Rattle.dci_fields.specs.Payloads.{are_fitting, is_fixed, fixes_fdra}
+use Rattle.dci_fields.specs.Payloads.{are_fitting, is_fixed}
 use Rattle.dci_fields.specs.GivenValues.{is_for, last_value, fixed_value, settled_value, settled, open_width, width_for, AreKnownBelow, AreKnown}
 use Rattle.dci_fields.proofs.RowLists.{named_same, same_named}
 

@@ -1,5 +1,5 @@
 -- What a legal cell says of the numbers on which widths rest.
-use Rattle.std.proofs.Common.{◌≡◌, ℕ, zero, suc, ◌+◌, ◌<◌, ◌≤◌, Bool, true, false, ◌&&◌, ◌||◌, ◌⊎◌, inl, inr, cond, nat_eq, nat_le, List, [], ◌∷◌, ◌++◌, Option, Some, None, IfSome, length, map, get_or, refl, ap, sym, subst, ◌∙◌, arith}
+use Rattle.std.proofs.Common.{◌≡◌, ℕ, zero, suc, ◌<◌, ◌≤◌, Bool, true, false, inl, inr, cond, nat_eq, nat_le, List, [], ◌∷◌, ◌++◌, Option, Some, None, IfSome, length, map, get_or, refl, ap, sym, ◌∙◌, arith}
 use Rattle.std.specs.List.{list_any, list_all}
 use Rattle.std.proofs.lemmas.List.{get_or_default}
 use Rattle.std.proofs.lemmas.Bool.{and_parts, or_cases, leb-true, eqb-true, cases_eq}
@@ -17,7 +17,7 @@ use Rattle.rrc_settings.specs.declared.settings.UplinkFields.{UplinkFields}
 use Rattle.rrc_settings.specs.declared.settings.DownlinkFields.{DownlinkFields}
 use Rattle.rrc_settings.specs.declared.settings.Handset.{Handset}
 use Rattle.rrc_settings.specs.declared.settings.RawCell.{RawCell}
-use Rattle.dci_fields.specs.HandsetsOfCell.{no_handset, handset_at}
+use Rattle.rrc_settings.specs.HandsetsOfCell.{no_handset, handset_at}
 use Rattle.dci_fields.specs.LegalSettings.{IsBlockCount, IsBwp, IsGroupConfig, AreUplinkSettings, AreDownlinkSettings, AreInitialParts, IsLegalHandset}
 
 -- checks of which none finds a fault
@@ -59,9 +59,6 @@ from_to low high n e = let parts = and_parts _ _ e in (leb-true low n parts.0, l
 -- a number in a range from low to high
 in_from_to : (at : Steps) (key : Key) (low high n : ℕ) → in_range at key (is_from_to low high) n ≡ None → (low ≤ n) × (n ≤ high)
 in_from_to at key low high n e = from_to low high n (passes at key (is_from_to low high) n e)
-
-block_count : (n : ℕ) → is_from_to 6 275 n ≡ true → IsBlockCount n
-block_count n e = let parts = from_to 6 275 n e in record { least = parts.0; most = parts.1 }
 
 -- the sizes that CORESET 0 may have
 coreset0_size : (n : ℕ) → is_one_of (24 ∷ 48 ∷ 96 ∷ []) n ≡ true → IsBlockCount n

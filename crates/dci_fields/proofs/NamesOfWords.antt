@@ -1,5 +1,5 @@
 -- Names and their words: each word is of one name, and each name but the identifier stands in the table of names.
-use Rattle.std.proofs.Common.{◌≡◌, ◌≢◌, ℕ, ◌-◌, ◌<◌, ◌≤◌, ◌↔◌, Some, None, Bool, true, false, not, nat_eq, nat_lt, bytes_eq, unwrap_or, List, ◌∷◌, length, get_or, refl, ap, sym, ◌∙◌, arith}
+use Rattle.std.proofs.Common.{◌≡◌, ◌≢◌, ℕ, ◌-◌, ◌<◌, ◌≤◌, ◌↔◌, Some, None, Bool, true, false, nat_lt, bytes_eq, unwrap_or, List, length, get_or, refl, ap, sym, ◌∙◌, arith}
 use Rattle.std.specs.List.{list_all, find}
 use Rattle.std.proofs.lemmas.List.Folds.{list_all_at}
 use Rattle.dci_fields.specs.declared.names.FieldName.{FieldName}

@@ -1,10 +1,7 @@
 -- At most one answer of packing: one payload, or one fault.
-use Rattle.std.proofs.Common.{◌≡◌, ◌≢◌, ℕ, zero, suc, ◌+◌, ◌-◌, ◌^◌, ◌<◌, ◌≤◌, ◌↔◌, Bool, true, false, not, ◌&&◌, inl, inr, List, [], ◌∷◌, Option, Some, None, Result, Ok, Err, IfOk, length, map, get_or, slice_get, refl, ap, sym, subst, ◌∙◌, arith}
-use Rattle.std.specs.List.{Contains}
-use Rattle.std.specs.Prelude.{IsTrue}
+use Rattle.std.proofs.Common.{◌≡◌, ℕ, zero, suc, ◌^◌, ◌<◌, ◌≤◌, ◌↔◌, Bool, true, false, not, inl, inr, List, [], ◌∷◌, Some, None, Result, Ok, Err, IfOk, length, map, get_or, refl, ap, sym, subst, ◌∙◌, arith}
 use Rattle.std.proofs.lemmas.Bool.{and_parts, cases_order}
 use Rattle.dci_fields.specs.declared.formats.Format.{Format}
-use Rattle.dci_fields.specs.declared.formats.Format.TheVariants.{F10}
 use Rattle.dci_fields.specs.declared.names.FieldName.{FieldName}
 use Rattle.dci_fields.specs.declared.names.FieldName.TheVariants as names
 use Rattle.dci_fields.specs.declared.rows.FieldRow.{FieldRow}
@@ -13,10 +10,10 @@ use Rattle.dci_fields.specs.declared.fault.FieldFault.{FieldFault}
 use Rattle.dci_fields.specs.declared.fault.FieldFault.TheVariants.{Unknown, TooLarge, AllOnes}
 use Rattle.dci_fields.specs.FieldLists.{width_of}
 use Rattle.dci_fields.specs.FormatRows.{row}
-use Rattle.dci_fields.specs.Payloads.{is_all_ones, is_allowed, are_allowed, payload_of}
-use Rattle.dci_fields.specs.GivenValues.{last_value, settled_value, settled, width_for, IsUnknown, IsTooLarge, AreKnownBelow, AreKnown, IsFieldFault, IsPayloadOf, IsPacked}
+use Rattle.dci_fields.specs.Payloads.{is_all_ones, is_allowed, are_allowed}
+use Rattle.dci_fields.specs.GivenValues.{last_value, settled_value, settled, width_for, IsUnknown, IsTooLarge, AreKnownBelow, IsFieldFault, IsPayloadOf, IsPacked}
 use Rattle.dci_fields.proofs.GivenLists.{within_list}
-use Rattle.dci_fields.proofs.PayloadsOfRows.{IsPayload, payload_parts, length-payload_of}
+use Rattle.dci_fields.proofs.PayloadsOfRows.{payload_parts, length-payload_of}
 
 some_same : {X : Type 0} (a b : X) → Some a ≡ Some b → a ≡ b
 some_same a b e = cc

@@ -1,18 +1,16 @@
 -- Payloads of field values: their length, that they tell their values, and that they tell their format.
-use Rattle.std.proofs.Common.{◌≡◌, ℕ, ◌+◌, ◌-◌, ◌^◌, ◌<◌, ◌≤◌, Bool, true, false, not, ◌&&◌, cond, eqb, nat_eq, nat_lt, List, [], ◌∷◌, ◌++◌, Some, None, length, take, drop, replicate, refl, ap, sym, subst, ◌∙◌, arith, length-append, length-drop, append_assoc}
-use Rattle.std.proofs.lemmas.Bool.{and_parts, and_from, lt-ltb, ltb-true, eqb-true}
+use Rattle.std.proofs.Common.{◌≡◌, ℕ, ◌+◌, ◌-◌, ◌^◌, ◌<◌, ◌≤◌, Bool, true, false, ◌&&◌, cond, nat_lt, List, [], ◌∷◌, ◌++◌, Some, None, length, take, drop, replicate, refl, ap, sym, subst, ◌∙◌, arith, length-append, length-drop, append_assoc}
+use Rattle.std.proofs.lemmas.Bool.{and_parts, and_from, lt-ltb, ltb-true}
 use Rattle.std.proofs.lemmas.List.{take_at, drop_at, length-take-le, length-replicate}
 use Rattle.std.proofs.lemmas.List.Sums.{sum_by-cons}
 use Rattle.std.proofs.Math.Seq.{take-add}
 use Rattle.bits_core.specs.Bits.{bits_of, number_of}
 use Rattle.bits_core.proofs.Numbers.{length-bits_of, number_of-lt, bits_of-number_of, number_of-bits_of}
 use Rattle.dci_fields.specs.declared.formats.Format.{Format}
-use Rattle.dci_fields.specs.declared.formats.Format.TheVariants.{F00, F10, Order}
 use Rattle.dci_fields.specs.declared.rows.FieldRow.{FieldRow}
 use Rattle.dci_fields.specs.declared.values.FieldValue.{FieldValue}
-use Rattle.dci_fields.specs.Formats.{identifier_of}
 use Rattle.dci_fields.specs.FieldLists.{width_of}
-use Rattle.dci_fields.specs.Payloads.{are_fitting, is_all_ones, are_allowed, joined, payload_of, shown, Carries}
+use Rattle.dci_fields.specs.Payloads.{are_fitting, are_allowed, joined, payload_of, shown, Carries}
 use Rattle.dci_fields.specs.ReadValues.{values_in}
 
 -- values that fit, joined, have the width of their rows

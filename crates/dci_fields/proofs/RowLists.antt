@@ -1,6 +1,6 @@
 -- Lists of fields: widths, names, cutting to a size, and the list of an order.
-use Rattle.std.proofs.Common.{◌≡◌, ◌≢◌, ℕ, zero, suc, ◌+◌, ◌-◌, ◌*◌, ◌<◌, ◌≤◌, Bool, true, false, not, ◌&&◌, ◌||◌, inl, inr, cond, nat_lt, List, [], ◌∷◌, ◌++◌, length, map, get_or, take, drop, find, Some, unwrap_or, option_map, refl, ap, sym, subst, ◌∙◌, arith, rules}
-use Rattle.std.specs.List.{list_all, list_any}
+use Rattle.std.proofs.Common.{◌≡◌, ℕ, ◌+◌, ◌-◌, ◌*◌, ◌<◌, ◌≤◌, Bool, true, false, not, ◌&&◌, ◌||◌, inl, inr, cond, nat_lt, List, [], ◌∷◌, length, map, get_or, take, drop, find, Some, unwrap_or, option_map, refl, ap, sym, subst, ◌∙◌, arith}
+use Rattle.std.specs.List.{list_all}
 use Rattle.std.proofs.lemmas.Bool.{and_parts, and_from, or_cases, cases_Bool, ltb-true, lt-ltb}
 use Rattle.std.proofs.lemmas.List.{length-map, drop_more, take_all}
 use Rattle.std.proofs.lemmas.List.Sums.{sum_by-cons}
@@ -10,8 +10,8 @@ use Rattle.dci_fields.specs.declared.rows.FieldRow.{FieldRow}
 use Rattle.dci_fields.specs.SameNames.{same_name}
 use Rattle.dci_fields.specs.Equality.{decides_field_name}
 use Rattle.dci_fields.specs.FieldLists.{width_of, BeginsWithIdentifier, are_apart, has_fdra, AreNarrow, IsFieldList}
-use Rattle.dci_fields.specs.FormatRows.{row, rows_after_order, rows_order}
-use Rattle.dci_fields.specs.FittedRows.{excess, fdra_of, cut_row, fitted, HasFdraSecond, order_of}
+use Rattle.dci_fields.specs.FormatRows.{row}
+use Rattle.dci_fields.specs.FittedRows.{excess, fdra_of, cut_row, fitted, HasFdraSecond}
 
 -- names that the test says are the same are so
 pub named_same : (a b : FieldName) → same_name a b ≡ true → a ≡ b
@@ -171,12 +171,3 @@ pub has_second : (rows : List FieldRow) (d : FieldRow) → 1 < length rows → (
 has_second [] d h is = absurd (omega arith)
 has_second (first ∷ []) d h is = absurd (omega arith)
 has_second (first ∷ second ∷ rest) d h is = is
-
--- its width
-pub fdra_of-second : (rows : List FieldRow) (d : FieldRow) → BeginsWithIdentifier rows → HasFdraSecond rows → fdra_of rows ≡ (get_or rows 1 d).width
-fdra_of-second [] d begins second = absurd second
-fdra_of-second (first ∷ []) d begins second = absurd second
-fdra_of-second (first ∷ r ∷ rest) d begins second =
-    let width : FieldRow → ℕ = λ x. x.width in
-    ap (λ (n : FieldName). unwrap_or (option_map width (cond (same_name n names.Fdra) (Some first) (find (λ (x : FieldRow). same_name x.name names.Fdra) (r ∷ rest)))) 0) begins.0
-    ∙ ap (λ (n : FieldName). unwrap_or (option_map width (cond (same_name n names.Fdra) (Some r) (find (λ (x : FieldRow). same_name x.name names.Fdra) rest))) 0) second

@@ -1,28 +1,19 @@
 -- Rows are packed one after another.
-use Rattle.std.proofs.Common.{◌≡◌, ◌≢◌, ℕ, zero, suc, ◌+◌, ◌-◌, ◌^◌, ◌<◌, ◌≤◌, Bool, true, false, not, ◌&&◌, ◌||◌, inl, inr, cond, nat_lt, nat_eq, List, [], ◌∷◌, ◌++◌, Option, Some, None, Result, Ok, Err, length, map, get_or, take, drop, replicate, refl, ap, sym, subst, ◌∙◌, arith, length-append, append_assoc, append-nil}
-use Rattle.std.specs.List.{Contains}
-use Rattle.std.specs.Prelude.{IsTrue}
+use Rattle.std.proofs.Common.{◌≡◌, ℕ, suc, ◌+◌, ◌-◌, ◌^◌, ◌<◌, ◌≤◌, Bool, true, false, inl, inr, List, [], ◌∷◌, ◌++◌, length, map, get_or, drop, replicate, refl, ap, sym, subst, ◌∙◌, arith, length-append, append_assoc, append-nil}
 use Rattle.std.proofs.Math.Nat.{pow-le-pow_right}
-use Rattle.std.proofs.lemmas.Bool.{and_parts, and_from, cases_Bool, cases_order, lt-ltb, eq-eqb}
-use Rattle.std.proofs.lemmas.List.{drop_more, length-replicate, drop_all, get_or_default}
+use Rattle.std.proofs.lemmas.Bool.{and_from, cases_order}
+use Rattle.std.proofs.lemmas.List.{drop_more, drop_all, get_or_default}
 use Rattle.bits_core.specs.Bits.{bits_of}
 use Rattle.bits_core.proofs.Numbers.{length-bits_of}
 use Rattle.dci_fields.specs.declared.formats.Format.{Format}
-use Rattle.dci_fields.specs.declared.formats.Format.TheVariants.{F00, F10, Order, F01, F11}
-use Rattle.dci_fields.specs.declared.names.FieldName.{FieldName}
-use Rattle.dci_fields.specs.declared.names.FieldName.TheVariants as names
 use Rattle.dci_fields.specs.declared.rows.FieldRow.{FieldRow}
 use Rattle.dci_fields.specs.declared.fault.Given.{Given}
-use Rattle.dci_fields.specs.declared.fault.FieldFault.{FieldFault}
-use Rattle.dci_fields.specs.declared.fault.FieldFault.TheVariants.{Unknown, TooLarge, AllOnes}
-use Rattle.dci_fields.specs.Formats.{identifier_of}
-use Rattle.dci_fields.specs.SameNames.{same_name}
 use Rattle.dci_fields.specs.FieldLists.{width_of, IsFieldList}
-use Rattle.dci_fields.specs.Payloads.{are_fitting, is_all_ones, is_allowed, are_allowed, joined, payload_of, is_fixed}
-use Rattle.dci_fields.specs.GivenValues.{last_value, settled_value, settled, AreKnown, IsFieldFault, IsPayloadOf}
+use Rattle.dci_fields.specs.Payloads.{is_allowed, are_allowed, joined}
+use Rattle.dci_fields.specs.GivenValues.{settled_value, settled, AreKnown, IsPayloadOf}
 use Rattle.dci_fields.proofs.RowLists.{width_of-cons}
 use Rattle.dci_fields.proofs.GivenLists.{narrow_at, settled_value-fits, settled-fits}
-use Rattle.dci_fields.proofs.PayloadsOfRows.{IsPayload, payload_from}
+use Rattle.dci_fields.proofs.PayloadsOfRows.{payload_from}
 
 -- the payload so far, with the rows that are left, is that of all rows, and the format allows the rows so far their values
 pub record IsPacking (rows : List FieldRow) (format : Format) (given : List Given) (at : ℕ) (payload : List Bool) : Type 0 where

@@ -1,6 +1,6 @@
 -- The sizes of the formats that a handset monitors (after 3GPP TS 38.212, 7.3.1.0). The steps, the fourth included, are
 -- this project's profile of that clause: only sizes that some set of the handset monitors count.
-use Rattle.std.specs.Prelude.{ℕ, ◌+◌, Bool, true, false, not, ◌&&◌, cond, nat_eq, nat_le, max, List, [], ◌∷◌, ◌++◌, Option, Some, None, length}
+use Rattle.std.specs.Prelude.{ℕ, ◌+◌, Bool, true, false, ◌&&◌, cond, nat_eq, nat_le, max, List, [], ◌∷◌, Option, Some, None, length}
 use Rattle.std.specs.List.{list_any}
 use Rattle.rrc_settings.specs.declared.settings.RawCell.{RawCell}
 use Rattle.rrc_settings.specs.declared.settings.Handset.{Handset}
@@ -12,7 +12,7 @@ use Rattle.dci_fields.specs.declared.formats.Format.TheVariants.{F00, F10, F01, 
 use Rattle.dci_fields.specs.declared.formats.Widths.{Widths}
 use Rattle.dci_fields.specs.declared.formats.Widths.TheVariants.{Common, Own}
 use Rattle.dci_fields.specs.declared.sizes.Sizes.{Sizes}
-use Rattle.dci_fields.specs.HandsetsOfCell.{handset_at}
+use Rattle.rrc_settings.specs.HandsetsOfCell.{handset_at}
 use Rattle.dci_fields.specs.FieldLists.{width_of}
 use Rattle.dci_fields.specs.FormatRows.{rows_of}
 

@@ -1,6 +1,5 @@
 -- `==` of formats, names, rows and values holds exactly of equal values.
 use Rattle.std.specs.Prelude.{◌≡◌, Bool, List, Decides}
-use Rattle.std.specs.Cmp.{unsigned_Decides}
 use Rattle.std.specs.Cmp.Lexicographic.{pointwise}
 use Rattle.std.proofs.Common.{rules}
 use Rattle.std.proofs.lemmas.Grind.{common_steps}

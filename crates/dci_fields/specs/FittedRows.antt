@@ -1,6 +1,5 @@
 -- Rows that are cut to a size, and the rows of a PDCCH order (3GPP TS 38.212, 7.3.1.0 and 7.3.1.2.1).
-use Rattle.std.specs.Prelude.{◌≡◌, ℕ, ◌-◌, ◌<◌, Bool, cond, List, [], ◌∷◌, ◌++◌, map, take, find, unwrap_or, option_map}
-use Rattle.dci_fields.specs.declared.names.FieldName.{FieldName}
+use Rattle.std.specs.Prelude.{◌≡◌, ℕ, ◌-◌, cond, List, [], ◌∷◌, ◌++◌, map, take, find, unwrap_or, option_map}
 use Rattle.dci_fields.specs.declared.names.FieldName.TheVariants as names
 use Rattle.dci_fields.specs.declared.rows.FieldRow.{FieldRow}
 use Rattle.dci_fields.specs.SameNames.{same_name}

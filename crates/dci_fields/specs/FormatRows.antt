@@ -16,7 +16,7 @@ use Rattle.dci_fields.specs.declared.formats.Widths.{Widths}
 use Rattle.dci_fields.specs.declared.names.FieldName.{FieldName}
 use Rattle.dci_fields.specs.declared.names.FieldName.TheVariants as names
 use Rattle.dci_fields.specs.declared.rows.FieldRow.{FieldRow}
-use Rattle.dci_fields.specs.HandsetsOfCell.{handset_at}
+use Rattle.rrc_settings.specs.HandsetsOfCell.{handset_at}
 use Rattle.dci_fields.specs.Assignments.{span_bits, fdra_width, downlink_blocks, uplink_blocks}
 use Rattle.dci_fields.specs.Antennas.{downlink_ports, sri_width, precoding_width, uplink_ports}
 

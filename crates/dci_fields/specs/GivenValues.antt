@@ -1,5 +1,5 @@
 -- Field values that are asked for: what each row has by them, and what may be wrong with them.
-use Rattle.std.specs.Prelude.{◌≡◌, ◌≢◌, ℕ, ◌-◌, ◌^◌, ◌<◌, ◌≤◌, Bool, true, false, cond, not, ◌&&◌, nat_lt, List, [], ◌∷◌, Option, Some, None, length, map, slice_get, option_map, find, IsTrue, Result, Ok, Err}
+use Rattle.std.specs.Prelude.{◌≡◌, ℕ, ◌-◌, ◌^◌, ◌<◌, ◌≤◌, Bool, false, cond, not, ◌&&◌, List, [], ◌∷◌, Option, Some, None, length, map, slice_get, option_map, find, IsTrue, Result, Ok, Err}
 use Rattle.std.specs.List.{Contains}
 use Rattle.dci_fields.specs.declared.formats.Format.{Format}
 use Rattle.dci_fields.specs.declared.formats.Format.TheVariants.{F10}

@@ -2,7 +2,6 @@ pub mod Formats
 pub mod Words
 pub mod SameNames
 pub mod FieldLists
-pub mod HandsetsOfCell
 pub mod LegalSettings
 pub mod Assignments
 pub mod Antennas

@@ -1,6 +1,6 @@
 //! The fields of a format of a handset.
 ghost use Rattle.std.specs.Prelude.{◌≡◌, ◌<◌, IsTrue, length};
-ghost use Rattle.dci_fields.specs.HandsetsOfCell.{handset_at};
+ghost use Rattle.rrc_settings.specs.HandsetsOfCell.{handset_at};
 ghost use Rattle.dci_fields.specs.LegalSettings.{AreInitialParts, IsLegalHandset};
 ghost use Rattle.dci_fields.specs.FormatRows.{raw_rows, rows_of, has_fields};
 

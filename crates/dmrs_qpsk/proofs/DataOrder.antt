@@ -1,15 +1,14 @@
 -- The data places of REGs have the points of the bits, two by two.
-use Rattle.std.proofs.Common.{◌≡◌, ◌≢◌, ℕ, ◌+◌, ◌-◌, ◌*◌, ◌/◌, ◌%◌, ◌<◌, Bool, false, List, Some, slice_get, length, refl, sym, ◌∙◌, ap, subst, arith}
+use Rattle.std.proofs.Common.{◌≡◌, ℕ, ◌+◌, ◌*◌, ◌/◌, ◌%◌, ◌<◌, Bool, List, Some, slice_get, length, sym, ◌∙◌, ap, arith}
 use Rattle.std.proofs.lemmas.Option.{slice_get_within, same_Some}
 use Rattle.bits_core.specs.Bits.{bit_of}
-use Rattle.slot_grid.specs.declared.places.Point.{Point}
 use Rattle.coreset_map.specs.declared.places.Reg.{Reg}
 use Rattle.coreset_map.specs.declared.places.Spot.{Spot}
 use Rattle.coreset_map.specs.RegOrder.{reg_at, AreRegs, AreWithin}
-use Rattle.coreset_map.specs.DataPlaces.{is_reference, data_places}
+use Rattle.coreset_map.specs.DataPlaces.{data_places}
 use Rattle.coreset_map.proofs.Spots.{spot_of, data-place, length-data_places, no_reference}
 use Rattle.dmrs_qpsk.specs.Modulation.{point_of}
-use Rattle.dmrs_qpsk.specs.PointsOnGrid.{data_rank, reg_point, image_of}
+use Rattle.dmrs_qpsk.specs.PointsOnGrid.{data_rank, image_of}
 use Rattle.dmrs_qpsk.proofs.ImagesOnGrid.{image_at}
 use Rattle.dmrs_qpsk.proofs.Takes.{data_there}
 

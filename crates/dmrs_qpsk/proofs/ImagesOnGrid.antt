@@ -1,9 +1,10 @@
 -- Which places the image of bits on REGs has.
 use Rattle.std.proofs.Common.{◌≡◌, ℕ, ◌+◌, ◌*◌, ◌/◌, ◌%◌, ◌<◌, Bool, List, Some, None, option_map, length, inl, inr, refl, sym, ◌∙◌, ap, arith}
 use Rattle.std.proofs.lemmas.Bool.{cases_lt}
+use Rattle.std.proofs.lemmas.Option.{same_Some}
 use Rattle.slot_grid.specs.declared.places.Point.{Point}
 use Rattle.slot_grid.specs.Grid.{GridValue}
-use Rattle.slot_grid.specs.Image.{IsWithin}
+use Rattle.slot_grid.specs.Image.{IsWithin, AreApart}
 use Rattle.coreset_map.specs.declared.places.Reg.{Reg}
 use Rattle.coreset_map.specs.RegOrder.{reg_at, AreRegs}
 use Rattle.dmrs_qpsk.specs.PointsOnGrid.{reg_point, rank_in, image_of, AreInside}
@@ -62,3 +63,40 @@ image_within grid slot first id regs bits inside s c p e =
           let (row, column) = inside j r.below in
           (omega (arith, r.symbol_is), omega (arith, r.block_is))
     ]
+
+-- a point of an image is that of a subcarrier of one of its REGs
+pub record IsOfReg (slot first id : ℕ) (regs : List Reg) (bits : List Bool) (s c : ℕ) (p : Point) : Type 0 where
+  pub reg : ℕ
+  pub within : reg < length regs
+  pub symbol_is : first + (reg_at regs reg).symbol ≡ s
+  pub place_is : 12 * (reg_at regs reg).block + c % 12 ≡ c
+  pub point_is : reg_point slot (first + (reg_at regs reg).symbol) id (reg_at regs reg).block bits reg (c % 12) ≡ p
+
+pub of_reg : (slot first id : ℕ) (regs : List Reg) (bits : List Bool) (s c : ℕ) (p : Point) → image_of slot first id regs bits s c ≡ Some p
+    → IsOfReg slot first id regs bits s c p
+unfolding image_of
+of_reg slot first id regs bits s c p e =
+    let point : ℕ → ℕ → ℕ → Point = λ symbol block j. reg_point slot symbol id block bits j (c % 12) in
+    elim (rank_cases first regs s (c / 12)) [
+      | inl n ↦ absurd (none_some p (sym (ap (option_map (point s (c / 12))) n.none) ∙ e))
+      | inr (j, r) ↦ record {
+        reg = j;
+        within = r.below;
+        symbol_is = r.symbol_is;
+        place_is = omega (arith, r.block_is);
+        point_is =
+            ap (λ symbol. point symbol (reg_at regs j).block j) r.symbol_is
+            ∙ ap (λ block. point s block j) r.block_is
+            ∙ same_Some (point s (c / 12) j) p (sym (ap (option_map (point s (c / 12))) r.some) ∙ e);
+      }
+    ]
+
+-- where two lists of REGs share no symbol and block, their images share no place
+pub images_apart : (slot first id : ℕ) (regs : List Reg) (bits : List Bool) (slot' first' id' : ℕ) (regs' : List Reg) (bits' : List Bool)
+    → ((i j : ℕ) → i < length regs → j < length regs' → first + (reg_at regs i).symbol ≡ first' + (reg_at regs' j).symbol
+    → (reg_at regs i).block ≡ (reg_at regs' j).block → ⊥)
+    → AreApart (image_of slot first id regs bits) (image_of slot' first' id' regs' bits')
+images_apart slot first id regs bits slot' first' id' regs' bits' apart s c p q e f =
+    let a = of_reg slot first id regs bits s c p e in
+    let b = of_reg slot' first' id' regs' bits' s c q f in
+    apart a.reg b.reg a.within b.within (a.symbol_is ∙ sym b.symbol_is) (omega (arith, a.place_is, b.place_is))

@@ -1,5 +1,5 @@
 -- What is put is taken.
-use Rattle.std.proofs.Common.{◌≡◌, List, Bool, sym, subst}
+use Rattle.std.proofs.Common.{List, Bool, sym, subst}
 use Rattle.slot_grid.specs.Image.{overwritten}
 use Rattle.dmrs_qpsk.specs.Held.{Holds}
 use Rattle.dmrs_qpsk.specs.PointLaws.{HoldsWhatWasPut}

@@ -1,22 +1,11 @@
 -- The points of REGs are written one after another.
-use Rattle.std.proofs.Common.{◌≡◌, ℕ, ◌+◌, ◌*◌, ◌<◌, Bool, List, length, refl, sym, ◌∙◌, ap, arith, below_more}
+use Rattle.std.proofs.Common.{◌≡◌, ℕ, ◌+◌, ◌*◌, ◌<◌, Bool, List, length, sym, ◌∙◌, ap, arith, below_more}
 use Rattle.slot_grid.specs.declared.places.Point.{Point}
 use Rattle.slot_grid.specs.Grid.{GridValue, IsPut, point_at}
 use Rattle.coreset_map.specs.declared.places.Reg.{Reg}
 use Rattle.coreset_map.specs.RegOrder.{reg_at, AreRegs}
 use Rattle.dmrs_qpsk.specs.PointsOnGrid.{reg_point, AreInside}
 use Rattle.dmrs_qpsk.specs.Placed.{IsRegPut, AreRegsPut}
-
-pub put-none : (symbol id block : ℕ) (bits : List Bool) (j : ℕ) (grid : GridValue) → IsRegPut symbol id block bits j 0 grid grid
-put-none symbol id block bits j grid = record {
-  mu = refl;
-  frame = refl;
-  slot = refl;
-  blocks = refl;
-  size = refl;
-  there = λ i h. absurd (omega arith);
-  others = λ s c h other. refl;
-}
 
 pub put-more : (symbol id block : ℕ) (bits : List Bool) (j k : ℕ) (point : Point) (old mid new : GridValue) → IsRegPut symbol id block bits j k old mid
     → IsPut symbol (12 * block + k) point mid new → point ≡ reg_point old.slot symbol id block bits j k → block < old.blocks → k < 12
@@ -32,17 +21,6 @@ put-more symbol id block bits j k point old mid new h put is in_grid small = rec
   others = λ s c l other.
       put.others s c (omega (arith, h.blocks)) (λ e f. other e (omega arith) (omega arith))
       ∙ h.others s c l (λ e m n. other e m (omega arith));
-}
-
-pub no_regs : (first id : ℕ) (regs : List Reg) (bits : List Bool) (grid : GridValue) → AreRegsPut first id regs bits 0 grid grid
-no_regs first id regs bits grid = record {
-  mu = refl;
-  frame = refl;
-  slot = refl;
-  blocks = refl;
-  size = refl;
-  there = λ j i h. absurd (omega arith);
-  others = λ s c h other. refl;
 }
 
 -- two REGs of a list are apart

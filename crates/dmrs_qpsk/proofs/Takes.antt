@@ -1,9 +1,8 @@
 -- Points at the places of REGs are read one after another, and a grid holds one list of bits on REGs or has one first bad place there.
-use Rattle.std.proofs.Common.{◌≡◌, ◌≢◌, ℕ, ◌+◌, ◌*◌, ◌/◌, ◌%◌, ◌<◌, Bool, true, false, cond, List, [], ◌∷◌, ◌++◌, Some, None, option_map, Ok, Err, Result, IfOk, IfErr, ◌↔◌, length, ◌⊎◌, inl, inr, refl, sym, ◌∙◌, ap, subst, arith, below_more, length-append}
+use Rattle.std.proofs.Common.{◌≡◌, ◌≢◌, ℕ, ◌+◌, ◌*◌, ◌/◌, ◌%◌, ◌<◌, Bool, true, false, cond, List, [], ◌∷◌, ◌++◌, Ok, Err, Result, IfOk, IfErr, ◌↔◌, length, ◌⊎◌, inl, inr, refl, sym, ◌∙◌, ap, subst, arith, below_more, length-append}
 use Rattle.std.proofs.lemmas.Bool.{cases_lt}
 use Rattle.std.proofs.lemmas.Bool.Decides.{nat_tests}
 use Rattle.std.proofs.lemmas.List.{same_lists, get_or_default, get_or_append_left, get_or-append-add}
-use Rattle.std.proofs.lemmas.Option.{same_Some}
 use Rattle.bits_core.specs.Bits.{bit_of}
 use Rattle.slot_grid.specs.declared.places.Point.{Point}
 use Rattle.slot_grid.specs.declared.places.Point.TheVariants.{Empty as NoPoint}
@@ -21,8 +20,7 @@ use Rattle.dmrs_qpsk.specs.PointsOnGrid.{data_rank, reg_point, image_of, AreInsi
 use Rattle.dmrs_qpsk.specs.ReferencePoints.{reference}
 use Rattle.dmrs_qpsk.specs.Held.{Holds, IsFlawed, IsBad, IsFirstBad}
 use Rattle.dmrs_qpsk.specs.Taken.{IsPointTaken, HasPoint, ArePointsTaken}
-use Rattle.dmrs_qpsk.proofs.Ranks.{rank_cases}
-use Rattle.dmrs_qpsk.proofs.ImagesOnGrid.{image_at, image_within}
+use Rattle.dmrs_qpsk.proofs.ImagesOnGrid.{image_at, image_within, of_reg}
 
 -- the point of two bits is a point
 not_empty : (a b : Bool) → point_of a b ≡ NoPoint → ⊥
@@ -155,9 +153,6 @@ last_bits bits a b at e =
     let second : bit_of all (at + 1) ≡ b = ap (bit_of all) (omega arith) ∙ get_or-append-add bits (a ∷ b ∷ []) 1 false in
     ap (λ x. point_of x b) (sym first) ∙ ap (point_of (bit_of all at)) (sym second)
 
-pub none_taken : (grid : GridValue) (first id : ℕ) (regs : List Reg) → ArePointsTaken grid first id regs [] 0
-none_taken grid first id regs = record { size = refl; there = λ m h. absurd (omega arith) }
-
 -- a reference place is read
 reference_taken : (grid : GridValue) (first id : ℕ) (regs : List Reg) (bits : List Bool) (n : ℕ) → ArePointsTaken grid first id regs bits n
     → is_reference (n % 12) ≡ true
@@ -222,36 +217,6 @@ taken_at grid first id regs bits n j k h l m =
     let P : ℕ → Type 0 = λ i. HasPoint grid first id regs bits i ((12 * j + k) % 12) in
     let Q : ℕ → Type 0 = λ i. HasPoint grid first id regs bits j i in
     subst Q within (subst P reg (h.there (12 * j + k) m))
-
--- a point of the image is one of a REG
-record IsOfReg (slot first id : ℕ) (regs : List Reg) (bits : List Bool) (s c : ℕ) (p : Point) : Type 0 where
-  reg : ℕ
-  within : reg < length regs
-  symbol_is : first + (reg_at regs reg).symbol ≡ s
-  place_is : 12 * (reg_at regs reg).block + c % 12 ≡ c
-  point_is : reg_point slot (first + (reg_at regs reg).symbol) id (reg_at regs reg).block bits reg (c % 12) ≡ p
-
-none_some : (p : Point) → None ≡ Some p → ⊥
-none_some p e = cc
-
-of_reg : (slot first id : ℕ) (regs : List Reg) (bits : List Bool) (s c : ℕ) (p : Point) → image_of slot first id regs bits s c ≡ Some p
-    → IsOfReg slot first id regs bits s c p
-unfolding image_of
-of_reg slot first id regs bits s c p e =
-    let point : ℕ → ℕ → ℕ → Point = λ symbol block j. reg_point slot symbol id block bits j (c % 12) in
-    elim (rank_cases first regs s (c / 12)) [
-      | inl n ↦ absurd (none_some p (sym (ap (option_map (point s (c / 12))) n.none) ∙ e))
-      | inr (j, r) ↦ record {
-        reg = j;
-        within = r.below;
-        symbol_is = r.symbol_is;
-        place_is = omega (arith, r.block_is);
-        point_is =
-            ap (λ symbol. point symbol (reg_at regs j).block j) r.symbol_is
-            ∙ ap (λ block. point s block j) r.block_is
-            ∙ same_Some (point s (c / 12) j) p (sym (ap (option_map (point s (c / 12))) r.some) ∙ e);
-      }
-    ]
 
 -- where all places are read, the grid holds the bits
 pub all_taken : (grid : GridValue) (first id : ℕ) (regs : List Reg) (bits : List Bool) (n : ℕ) → n ≡ 12 * length regs

@@ -1,6 +1,6 @@
 -- Coded bits on the grid (3GPP TS 38.211, 7.3.2.4, 7.3.2.5 and 7.4.1.3.2): each REG of a candidate has reference points
 -- at subcarriers 1, 5 and 9, and the QPSK points of the bits at its nine others.
-use Rattle.std.specs.Prelude.{◌≡◌, ℕ, suc, ◌+◌, ◌-◌, ◌*◌, ◌/◌, ◌%◌, ◌<◌, ◌≤◌, Bool, cond, ◌&&◌, ◌||◌, ◌==◌, List, [], ◌∷◌, Option, Some, None, option_map, length, slice_index_or}
+use Rattle.std.specs.Prelude.{ℕ, suc, ◌+◌, ◌-◌, ◌*◌, ◌/◌, ◌%◌, ◌<◌, Bool, cond, ◌&&◌, ◌==◌, List, [], ◌∷◌, Option, Some, None, option_map, length}
 use Rattle.bits_core.specs.Bits.{bit_of}
 use Rattle.slot_grid.specs.declared.places.Point.{Point}
 use Rattle.slot_grid.specs.Grid.{GridValue}

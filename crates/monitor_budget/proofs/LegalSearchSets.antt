@@ -17,7 +17,8 @@ use Rattle.rrc_settings.specs.Faults.{Steps, Finding, ◌▸◌, element, unless
 use Rattle.rrc_settings.specs.Table.{in_range, list_ranges, cell_table, cell_ranges, handset_table, handset_ranges, set_table, set_ranges, is_one_of, is_period, is_candidate_count, if_given}
 use Rattle.rrc_settings.specs.Conflicts.{has_bit, end_of, cces_of, coreset_numbered, holds_if_given, ends_after_slot, asks_above, is_common, is_specific, conflict, timing_conflicts, set_conflicts, coreset_conflicts, handset_conflicts, uplink_conflicts, downlink_conflicts}
 use Rattle.rrc_settings.specs.Legal.{IsLegal}
-use Rattle.coreset_map.specs.ResourcesOfCell.{no_coreset, no_handset, handset_at, coreset_at, resources_in}
+use Rattle.rrc_settings.specs.HandsetsOfCell.{no_handset, handset_at}
+use Rattle.coreset_map.specs.ResourcesOfCell.{no_coreset, coreset_at, resources_in}
 use Rattle.coreset_map.proofs.LegalSets.{AllNone, none-all, unless-none, conflict-none, Passes, first_in-none, not_below, legal-ranges, legal-handset_ranges, legal-handset_conflicts}
 use Rattle.coreset_map.proofs.LegalResources.{between, length-groups}
 use Rattle.coreset_map.specs.ControlResources.{cce_count}

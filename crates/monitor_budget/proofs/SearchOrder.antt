@@ -17,7 +17,7 @@ use Rattle.rrc_settings.specs.Legal.{IsLegal}
 use Rattle.rrc_settings.specs.Conflicts.{is_common}
 use Rattle.rrc_settings.specs.Equality.{equivalence_from_decides}
 use Rattle.search_starts.specs.Calendar.{slots_before, is_monitored}
-use Rattle.coreset_map.specs.ResourcesOfCell.{handset_at}
+use Rattle.rrc_settings.specs.HandsetsOfCell.{handset_at}
 use Rattle.coreset_map.proofs.Cces.{range-append}
 use Rattle.coreset_map.proofs.Members.{IsIn, in-append, in-flat_map, in-filter, in-range, range-in, at-in}
 use Rattle.coreset_map.proofs.Rising.{Rising, rising-append, rising-filter, rising-flat_map, rising-range}

@@ -8,7 +8,7 @@ use Rattle.rrc_settings.specs.declared.settings.SetKind.{SetKind}
 use Rattle.rrc_settings.specs.Conflicts.{is_common}
 use Rattle.dci_fields.specs.declared.sizes.Sizes.{Sizes}
 use Rattle.search_starts.specs.Calendar.{slots_before, is_monitored}
-use Rattle.coreset_map.specs.ResourcesOfCell.{handset_at}
+use Rattle.rrc_settings.specs.HandsetsOfCell.{handset_at}
 use Rattle.monitor_budget.specs.declared.allotment.CommonOver.{CommonOver}
 use Rattle.monitor_budget.specs.declared.allotment.Allotment.{Allotment}
 use Rattle.monitor_budget.specs.Counts.{set_at, candidate_count, different_cces}

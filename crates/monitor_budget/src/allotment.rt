@@ -1,6 +1,6 @@
 //! Which sets a handset looks at in a slot (3GPP TS 38.213, 10.1).
 ghost use Rattle.std.specs.Prelude.{◌≡◌, ◌+◌, ◌*◌, ◌^◌, ◌<◌, ◌≤◌, ◌++◌, true, All, IfOk, length};
-ghost use Rattle.coreset_map.specs.ResourcesOfCell.{handset_at};
+ghost use Rattle.rrc_settings.specs.HandsetsOfCell.{handset_at};
 ghost use Rattle.monitor_budget.specs.Counts.{set_at, cces_of, counted_of, scrambling_of};
 ghost use Rattle.monitor_budget.specs.Tally.{AddsCces, AddsCounted, Tallies};
 ghost use Rattle.monitor_budget.specs.Allotting.{allotment_of, allotted, keep_limits, longest_front};

@@ -1,7 +1,7 @@
 //! The sets of a handset that are monitored in a slot, by their numbers (3GPP TS 38.213, 10.1).
 ghost use Rattle.std.specs.Prelude.{◌≡◌, ◌+◌, ◌*◌, ◌^◌, ◌<◌, ◌≤◌, ◌++◌, length};
 ghost use Rattle.rrc_settings.specs.Legal.{IsLegal};
-ghost use Rattle.coreset_map.specs.ResourcesOfCell.{handset_at};
+ghost use Rattle.rrc_settings.specs.HandsetsOfCell.{handset_at};
 ghost use Rattle.monitor_budget.specs.Allotting.{is_searched, is_wanted, numbered_sets, sets_in_slot};
 
 use crate::sets::{handset_in, set_in};

@@ -1,6 +1,6 @@
 //! The candidates of a search space set in a slot (3GPP TS 38.213, 10.1).
 ghost use Rattle.std.specs.Prelude.{◌≡◌, ℕ, ◌+◌, ◌*◌, ◌<◌, ◌≤◌, ◌++◌, map, length, slice_index};
-ghost use Rattle.coreset_map.specs.ResourcesOfCell.{handset_at};
+ghost use Rattle.rrc_settings.specs.HandsetsOfCell.{handset_at};
 ghost use Rattle.monitor_budget.specs.Counts.{set_at, candidates_of, ArePlaced};
 ghost use Rattle.monitor_budget.specs.SetCandidates.{AreAsked, level_candidates, set_candidates, sized, symbol_candidates};
 

@@ -3,7 +3,8 @@ ghost use Rattle.std.specs.Prelude.{◌≡◌, ◌^◌, ◌<◌, ◌≤◌, IsSo
 ghost use Rattle.std.specs.Option.{option_to_list};
 ghost use Rattle.rrc_settings.specs.Conflicts.{has_bit, coreset_numbered};
 ghost use Rattle.rrc_settings.specs.Legal.{IsLegal};
-ghost use Rattle.coreset_map.specs.ResourcesOfCell.{coreset_at, handset_at};
+ghost use Rattle.rrc_settings.specs.HandsetsOfCell.{handset_at};
+ghost use Rattle.coreset_map.specs.ResourcesOfCell.{coreset_at};
 ghost use Rattle.monitor_budget.specs.Counts.{set_at, coreset_of, cces_under, scrambling_of};
 ghost use Rattle.monitor_budget.specs.SetCandidates.{AreAsked, rising, rising_sizes, sizes_in};
 

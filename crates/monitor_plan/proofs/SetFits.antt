@@ -13,7 +13,7 @@ use Rattle.dci_fields.specs.FormatRows.{rows_of, has_fields}
 use Rattle.dci_fields.specs.FittedRows.{excess, fdra_of}
 use Rattle.dci_fields.specs.Alignment.{sizes_of}
 use Rattle.dci_fields.proofs.LegalSettings.{legal_initial, legal_handset}
-use Rattle.coreset_map.specs.ResourcesOfCell.{handset_at}
+use Rattle.rrc_settings.specs.HandsetsOfCell.{handset_at}
 use Rattle.monitor_budget.specs.Counts.{set_at}
 use Rattle.monitor_budget.proofs.LegalSearchSets.{legal-set}
 use Rattle.monitor_plan.specs.Watches.{up_format, down_format, up_size, down_size, widths_in}

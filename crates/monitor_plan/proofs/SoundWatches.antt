@@ -22,7 +22,8 @@ use Rattle.dci_fields.specs.Alignment.{sizes_of}
 use Rattle.coreset_map.specs.ControlResources.{Resources, cce_count, AreBelow, AreResources}
 use Rattle.coreset_map.specs.Candidates.{candidate_regs}
 use Rattle.coreset_map.specs.RegOrder.{reg_at, AreRegs, AreWithin}
-use Rattle.coreset_map.specs.ResourcesOfCell.{handset_at, coreset_at, resources_in, resources_of}
+use Rattle.rrc_settings.specs.HandsetsOfCell.{handset_at}
+use Rattle.coreset_map.specs.ResourcesOfCell.{coreset_at, resources_in, resources_of}
 use Rattle.coreset_map.proofs.Members.{IsIn, in-map, in-flat_map, at-in}
 use Rattle.coreset_map.proofs.CandidateRegs.{length-candidate, candidate-order, candidate-within}
 use Rattle.coreset_map.proofs.LegalResources.{IsLegalSet, legal-resources}

@@ -1,6 +1,6 @@
 //! The fields of a format, where it has a size.
 ghost use Rattle.std.specs.Prelude.{◌≡◌, ◌<◌, length, Some, IsTrue};
-ghost use Rattle.coreset_map.specs.ResourcesOfCell.{handset_at};
+ghost use Rattle.rrc_settings.specs.HandsetsOfCell.{handset_at};
 ghost use Rattle.dci_fields.specs.FormatRows.{has_fields, rows_of};
 ghost use Rattle.dci_fields.specs.FittedRows.{excess, fdra_of};
 ghost use Rattle.monitor_plan.specs.Watches.{list_at};

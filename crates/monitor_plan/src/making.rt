@@ -1,7 +1,8 @@
 //! The watches of a set.
 ghost use Rattle.std.specs.Prelude.{◌≡◌, ◌+◌, ◌<◌, ◌≤◌, ◌++◌, length, OnOk};
 ghost use Rattle.coreset_map.specs.ControlResources.{cce_count};
-ghost use Rattle.coreset_map.specs.ResourcesOfCell.{handset_at, resources_in};
+ghost use Rattle.rrc_settings.specs.HandsetsOfCell.{handset_at};
+ghost use Rattle.coreset_map.specs.ResourcesOfCell.{resources_in};
 ghost use Rattle.dci_fields.specs.Alignment.{sizes_of};
 ghost use Rattle.monitor_budget.specs.Counts.{coreset_of, set_at};
 ghost use Rattle.monitor_plan.specs.Watches.{down_list, reference_id, set_watches, up_list, watch_of};

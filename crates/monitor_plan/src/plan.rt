@@ -1,6 +1,6 @@
 //! The plan of a handset in a slot.
 ghost use Rattle.std.specs.Prelude.{◌≡◌, ℕ, ◌*◌, ◌^◌, ◌<◌, ◌≤◌, ◌↔◌, All, IfOk, Ok, Err, length};
-ghost use Rattle.coreset_map.specs.ResourcesOfCell.{handset_at};
+ghost use Rattle.rrc_settings.specs.HandsetsOfCell.{handset_at};
 ghost use Rattle.dci_fields.specs.Alignment.{sizes_of};
 ghost use Rattle.monitor_plan.specs.Watch.{IsPlan, IsInside};
 ghost use Rattle.monitor_plan.specs.Watches.{watches_of};

@@ -1,8 +1,8 @@
 -- How far a whole write has come, and pieces taken one after another.
 use Rattle.std.proofs.Common.{◌≡◌, ◌≤◌, ◌+◌, ◌-◌, ℕ, List, ◌++◌, Option, Some, None, length, take, drop, refl, ap, ◌∙◌, append_assoc, append-nil, sym, [], arith, length-drop}
-use Rattle.std.proofs.Math.Seq.{take-add, take-length}
+use Rattle.std.proofs.Math.Seq.{take-add}
 use Rattle.std.proofs.lemmas.List.{take_rest}
-use Rattle.outside.specs.Taken.{Takes, TakesPrefix}
+use Rattle.outside.specs.Taken.{Takes}
 
 -- two pieces taken one after the other are taken as one
 pub takes-append : (old mid new : Option (List ℕ)) (xs ys : List ℕ) → Takes old mid xs → Takes mid new ys → Takes old new (xs ++ ys)
@@ -14,14 +14,6 @@ takes-append (Some bytes) mid new xs ys first second =
 pub takes-nil : (taken : Option (List ℕ)) → Takes taken taken []
 takes-nil None = refl
 takes-nil (Some bytes) = ap (λ taken. Some taken) (sym (append-nil bytes))
-
--- nothing is the least prefix
-pub prefix-none : (taken : Option (List ℕ)) (piece : List ℕ) → TakesPrefix taken taken piece
-prefix-none taken piece = record { count = 0; within = omega arith; takes = takes-nil taken }
-
--- the whole piece is the greatest prefix
-pub prefix-whole : (old new : Option (List ℕ)) (piece : List ℕ) → Takes old new piece → TakesPrefix old new piece
-prefix-whole old new piece takes = record { count = length piece; within = omega arith; takes = rw take-length takes }
 
 -- the first `at` bytes of the piece were taken, and the count of faults is as it was
 pub record IsPutSoFar (old new : Option (List ℕ)) (faults_old faults_new : ℕ) (piece : List ℕ) (at : ℕ) : Type 0 where

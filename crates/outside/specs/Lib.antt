@@ -3,3 +3,4 @@ pub mod Taken
 pub mod Memory
 pub mod Named
 pub mod Counts
+pub mod Written

@@ -1,10 +1,10 @@
-ghost use Rattle.std.specs.Prelude.{◌≡◌, ◌<◌, ◌≤◌, [], None, length, IfSome, OnOk};
+ghost use Rattle.std.specs.Prelude.{◌≡◌, ◌<◌, ◌≤◌, [], None, length, IfOk, IfSome, IsErr, OnOk};
 ghost use Rattle.std.specs.Result.{IsErrOf};
 
 use crate::{FetchFault, Shelf};
 use std::alloc::Global;
 use std::fs;
-use std::io::Read;
+use std::io::{self, Read};
 use std::marker::Model;
 use std::rt::Files;
 
@@ -57,10 +57,7 @@ impl<'a, R: Files> Shelf for FileShelf<'a, R> {
         into: &mut Vec<u8>,
     ) -> Result<(), FetchFault> {
         into.clear();
-        let read = match fs::open(self.rt, name) {
-            Ok(mut file) => read_within(&mut file, limit, into),
-            Err(_) => Err(FetchFault::Failed),
-        };
+        let read = read_opened(fs::open(self.rt, name), limit, into);
         match read {
             Ok(()) => return Ok(()),
             Err(FetchFault::Failed) => self.faults = self.faults.saturating_add(1),
@@ -69,6 +66,26 @@ impl<'a, R: Files> Shelf for FileShelf<'a, R> {
         }
         into.clear();
         read
+    }
+}
+
+/// Reads what was opened, within `limit` bytes. What couldn't be opened is a fault.
+fn read_opened<F: Read + Drop>(
+    opened: io::Result<F>,
+    limit: usize,
+    into: &mut Vec<u8>,
+) -> Result<(), FetchFault>
+    requires { into.old.items ≡ [] }
+    ensures fits { OnOk result (length into.new.items ≤ limit) }
+    ensures unopened { IsErr opened → IsErrOf result FetchFault.Failed }
+
+    // Where the opened file tells what it has, these are the bytes, and `TooLong` comes only where there are more.
+    ensures whole { IfOk opened (λ file. OnOk result (IfSome (F.remaining file) (λ bytes. into.new.items ≡ bytes))) }
+    ensures longer { IfOk opened (λ file. IsErrOf result FetchFault.TooLong → IfSome (F.remaining file) (λ bytes. limit < length bytes)) }
+{
+    match opened {
+        Ok(mut file) => read_within(&mut file, limit, into),
+        Err(_) => Err(FetchFault::Failed),
     }
 }
 

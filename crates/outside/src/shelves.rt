@@ -30,5 +30,6 @@ pub trait Shelf {
         ensures fetched { Fetches (told self.old name.now) limit (faults self.old) (faults self.new)
             (longs self.old) (longs self.new) into.new.items result }
         ensures told { (n : List ℕ) → told self.new n ≡ told self.old n }
-        ensures may { (n : List ℕ) → may self.old n → may self.new n };
+        ensures may { (n : List ℕ) → may self.old n → may self.new n }
+        ensures may_back { (n : List ℕ) → may self.new n → may self.old n };
 }

@@ -15,6 +15,7 @@ pub record CodeShape : Type 0 where
   pub order : List ℕ
   pub positions : List Bool
 
+-- the code of these numbers, in this order, at these positions
 abbrev pub shape : ℕ → ℕ → List ℕ → List Bool → CodeShape
 shape k e order positions = record { block_len = k; coded_len = e; order = order; positions = positions }
 

@@ -33,9 +33,6 @@ unfolding count_below
 count-same zero test other h = refl
 count-same (suc n) test other h = rw (h n (omega arith), count-same n test other (λ i l. h i (omega arith))) refl
 
-or_more : (a b : Bool) → a ≡ true → (a || b) ≡ true
-or_more a b h = rw h refl
-
 or_no_more : (a b : Bool) → a ≡ false → (a || b) ≡ b
 or_no_more a b h = rw h refl
 

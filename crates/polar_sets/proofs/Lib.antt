@@ -5,3 +5,4 @@ pub mod Frozen
 pub mod Information
 pub mod Members
 pub mod Taken
+pub mod CodableBlocks

@@ -15,13 +15,6 @@ below_power : (n : ℕ) → n < 2 ^ n
 below_power zero = lit< tt
 below_power (suc n) = let h = below_power n in let e = pow-suc 2 n in omega arith
 
-low_power : (x b c : ℕ) → x ≤ 2 ^ b → 2 ^ c < x → c < b
-low_power x b c h l =
-    elim (cases_lt c b) [
-      | inl f ↦ f
-      | inr g ↦ (let le : 2 ^ b ≤ 2 ^ c = pow-le-pow_right (lit< tt) g in absurd (omega arith))
-    ]
-
 one_counted : (x c : ℕ) → 2 ^ c < x → ◌≡◌ {A = ℕ} (if nat_lt (2 ^ c) x then 1 else 0) 1
 one_counted x c h = grind arith
 

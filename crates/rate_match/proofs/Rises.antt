@@ -1,8 +1,8 @@
 -- The order of sending rises with the binary ones: a position whose ones contain those of another is sent after it.
-use Rattle.std.proofs.Common.{ℕ, ◌≡◌, ◌≢◌, ◌+◌, ◌*◌, ◌/◌, ◌%◌, ◌^◌, ◌<◌, ◌≤◌, Bool, true, false, not, ◌&&◌, ◌||◌, [], get_or, leb, map, refl, ap, subst, sym, ◌∙◌, inl, inr, arith}
+use Rattle.std.proofs.Common.{ℕ, ◌≡◌, ◌+◌, ◌*◌, ◌/◌, ◌%◌, ◌^◌, ◌<◌, ◌≤◌, Bool, true, false, not, ◌&&◌, ◌||◌, [], get_or, leb, map, refl, subst, sym, ◌∙◌, inl, inr, arith}
 use Rattle.std.specs.Prelude.{IsTrue, bit_and}
 use Rattle.std.specs.List.{range_with_len}
-use Rattle.std.proofs.lemmas.Bool.{cases_eq, leb-true}
+use Rattle.std.proofs.lemmas.Bool.{leb-true}
 use Rattle.std.proofs.lemmas.Bool.Decides.{eqb_tells}
 use Rattle.std.proofs.lemmas.Nat.{and_le_l, div-add-mod'}
 use Rattle.std.proofs.Math.Nat.{mod-lt, mul-le-mul_right}
@@ -97,16 +97,6 @@ position_rises n m p h l g c =
     (subst (λ (x : ℕ). IsTrue (contains_ones (position_at n p) x)) (position_reordered n m b) c)
     in
     reordered_rises width.exponent (n / 32) m p width.width b.some (rw b.whole l) (rw b.whole g) moved
-
--- and it is later where the two positions differ
-pub position_before : (n m p : ℕ) → IsTrue (is_code_length n) → m < n → p < n →
-    IsTrue (contains_ones (position_at n p) (position_at n m)) → position_at n m ≢ position_at n p → m < p
-position_before n m p h l g c d =
-    let le = position_rises n m p h l g c in
-    elim (cases_eq m p) [
-      | inl e ↦ absurd (d (ap (position_at n) e))
-      | inr e ↦ omega arith
-    ]
 
 -- so the places of two positions rise with their ones
 pub place_rises : (n i j : ℕ) → IsTrue (is_code_length n) → i < n → j < n → IsTrue (contains_ones i j) → place_of n j ≤ place_of n i

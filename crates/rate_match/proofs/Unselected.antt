@@ -11,7 +11,7 @@ use Rattle.rate_match.specs.Received.{IsUnselected}
 use Rattle.rate_match.specs.Repeats.{RepeatsBelow}
 use Rattle.rate_match.proofs.Blocks.{in_blocks, position_below}
 use Rattle.rate_match.proofs.Places.{position_once}
-use Rattle.rate_match.proofs.Selected.{bit_of-selected, selected-same, selected_by_each}
+use Rattle.rate_match.proofs.Selected.{selected_by_each}
 use Rattle.rate_match.proofs.Sent.{sent_below, sent_once, sent_repeated}
 
 -- the first `count` of the received bits are put in a word of n bits
@@ -100,15 +100,3 @@ unselected n k bits d count h e same put =
 -- the received bits are sent of the word that they leave
 pub selected_unselected : (n k : ℕ) (bits d : List Bool) → IsUnselected n k bits d → selected n k (length bits) (bit_of d) ≡ bits
 selected_unselected n k bits d h = sym (selected_by_each n k (length bits) (bit_of d) bits refl (λ i l. sym (h.received i l)))
-
--- they are sent of any word that agrees with it where bits are sent
-pub sent_where_agrees : (n k : ℕ) (bits d : List Bool) (word : ℕ → Bool) → IsUnselected n k bits d →
-    ((i : ℕ) → i < length bits → word (position_at n (sent_place n k (length bits) i)) ≡ bit_of d (position_at n (sent_place n k (length bits) i))) →
-    selected n k (length bits) word ≡ bits
-sent_where_agrees n k bits d word h same = selected-same n k (length bits) word (bit_of d) same ∙ selected_unselected n k bits d h
-
--- and of no other
-pub agrees_where_sent : (n k : ℕ) (bits d : List Bool) (word : ℕ → Bool) → IsUnselected n k bits d → selected n k (length bits) word ≡ bits →
-    (i : ℕ) → i < length bits → word (position_at n (sent_place n k (length bits) i)) ≡ bit_of d (position_at n (sent_place n k (length bits) i))
-agrees_where_sent n k bits d word h sent i l =
-    sym (bit_of-selected n k (length bits) word i l) ∙ ap (λ (xs : List Bool). bit_of xs i) sent ∙ sym (h.received i l)

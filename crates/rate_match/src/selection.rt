@@ -6,7 +6,7 @@ ghost use Rattle.rate_match.specs.MotherCode.{length_of};
 ghost use Rattle.rate_match.specs.RateMatching.{selected, sent_place};
 ghost use Rattle.rate_match.specs.Received.{IsUnselected};
 ghost use Rattle.rate_match.specs.Repeats.{IsFirstDiffering, RepeatsBelow};
-ghost use Rattle.std.specs.Prelude.{ℕ, ◌≡◌, ◌<◌, ◌≤◌, ◌↔◌, IsTrue, MatchOption, OnOk, length};
+ghost use Rattle.std.specs.Prelude.{ℕ, ◌≡◌, ◌<◌, ◌≤◌, ◌↔◌, IsTrue, MatchOption, OnErr, OnOk, length};
 
 use crate::order::order_of;
 use bits_core::Coded;
@@ -64,7 +64,8 @@ fn place_sent(n: usize, k: usize, e: usize, at: usize) -> usize
 }
 
 /// Replaces `d` by the word of which the received bits of a block of `k` bits are sent: each at its position, and false
-/// where nothing is received; or the first bit that differs from the one that it repeats.
+/// where nothing is received. The error is the first bit that differs from the one that it repeats, and leaves `d` as it
+/// was.
 pub fn unselect<const N: usize>(bits: &Coded, k: usize, d: &mut [bool; N]) -> Result<(), Differs>
     requires block { 1 ≤ k }
     requires longest { k ≤ 164 }
@@ -75,6 +76,7 @@ pub fn unselect<const N: usize>(bits: &Coded, k: usize, d: &mut [bool; N]) -> Re
     ensures same { (result ≡ Ok tt) ↔ RepeatsBelow N bits.now (length bits.now) }
     ensures differs { (fault : Differs) → (result ≡ Err fault) ↔ IsFirstDiffering N bits.now fault.at }
     ensures length { length d.new ≡ N }
+    ensures unchanged { OnErr result (d.new ≡ d.old) }
 {
     if let Some(at) = first_differing(bits, N) {
         return Err(Differs { at });

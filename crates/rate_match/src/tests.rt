@@ -73,48 +73,64 @@ fn orders(rt: HostRuntime) {
     assert_eq!(rt; order_of(128, 16), 12);
 }
 
-// A punctured code, a shortened one and one that is sent again from the front.
-#[test]
-fn words_of_codes(rt: HostRuntime) {
-    let mut sent = Coded::new();
+/// Whether a text of zeros and ones spells a word.
+fn spells(text: &[u8], word: &[bool]) -> bool {
+    if text.len() != word.len() {
+        return false;
+    }
+    for (at, digit) in text.iter().enumerate() {
+        if word[at] != (*digit == b'1') {
+            return false;
+        }
+    }
+    true
+}
 
+#[test]
+fn word_of_a_punctured_code(rt: HostRuntime) {
     let bits = coded_of(b"001101000000100010001001000000");
     let mut word = [false; 32];
     assert!(rt; length_for(12, 30) == 32);
     assert!(rt; unselect(&bits, 12, &mut word) == Ok(()));
-    for (at, digit) in b"00010101000101010000000001000000".iter().enumerate() {
-        assert!(rt; at < 32);
-        assert_eq!(rt; word[at], *digit == b'1');
-    }
+    assert!(rt; spells(b"00010101000101010000000001000000", &word));
+    let mut sent = Coded::new();
     select(&word, 12, 30, &mut sent);
     assert!(rt; sent == bits);
+}
 
+#[test]
+fn word_of_a_shortened_code(rt: HostRuntime) {
     let bits = coded_of(b"110010110100111000111100000111010011111101001000101101100100");
     let mut word = [false; 64];
     assert!(rt; length_for(40, 60) == 64);
     assert!(rt; unselect(&bits, 40, &mut word) == Ok(()));
-    for (at, digit) in b"1100100111001110001100110011011011000101111100001011010110000000"
-        .iter()
-        .enumerate()
-    {
-        assert!(rt; at < 64);
-        assert_eq!(rt; word[at], *digit == b'1');
-    }
+    assert!(rt;
+        spells(
+            b"1100100111001110001100110011011011000101111100001011010110000000",
+            &word,
+        )
+    );
+    let mut sent = Coded::new();
     select(&word, 40, 60, &mut sent);
     assert!(rt; sent == bits);
+}
 
+// Six bits are sent twice: a copy that differs is told, the first one where there are several.
+#[test]
+fn word_of_a_repeated_code(rt: HostRuntime) {
     let mut bits = coded_of(
         b"0101101111010110101010001101101110010110111010101001101010101010010110",
     );
+    let mut word = [false; 64];
     assert!(rt; length_for(31, 70) == 64);
     assert!(rt; unselect(&bits, 31, &mut word) == Ok(()));
-    for (at, digit) in b"0101101111010110101011101001111010000111011010101001101010101010"
-        .iter()
-        .enumerate()
-    {
-        assert!(rt; at < 64);
-        assert_eq!(rt; word[at], *digit == b'1');
-    }
+    assert!(rt;
+        spells(
+            b"0101101111010110101011101001111010000111011010101001101010101010",
+            &word,
+        )
+    );
+    let mut sent = Coded::new();
     select(&word, 31, 70, &mut sent);
     assert!(rt; sent == bits);
     bits.set(69, true);

@@ -1,6 +1,6 @@
 //! The five steps that align the sizes.
 ghost use Rattle.std.specs.Prelude.{◌≡◌, ◌<◌, ◌≤◌, length};
-ghost use Rattle.dci_fields.specs.HandsetsOfCell.{handset_at};
+ghost use Rattle.rrc_settings.specs.HandsetsOfCell.{handset_at};
 ghost use Rattle.dci_fields.specs.Alignment.{told_apart, sizes_apart, are_few, sizes_joined, sizes_at};
 
 use crate::monitored::{has_set, raw_size, where_monitored};

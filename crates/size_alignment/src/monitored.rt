@@ -1,7 +1,7 @@
 //! What a handset monitors, and the sizes of its formats before any alignment.
 ghost use Rattle.std.specs.Prelude.{◌≡◌, ◌<◌, ◌≤◌, length};
 ghost use Rattle.std.specs.List.{list_any};
-ghost use Rattle.dci_fields.specs.HandsetsOfCell.{handset_at};
+ghost use Rattle.rrc_settings.specs.HandsetsOfCell.{handset_at};
 ghost use Rattle.dci_fields.specs.Alignment.{same_kind, has_set, raw_size, where_monitored};
 
 use dci_fields::{Format, Widths, has_fields, raw_list, width_of};

@@ -1,6 +1,6 @@
 //! Cells of one handset with one CORESET.
 ghost use Rattle.std.specs.Prelude.{◌<◌, IfOk, length};
-ghost use Rattle.coreset_map.specs.ResourcesOfCell.{handset_at};
+ghost use Rattle.rrc_settings.specs.HandsetsOfCell.{handset_at};
 
 use arrayvec::ArrayVec;
 use rrc_settings::{

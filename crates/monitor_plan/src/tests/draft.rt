@@ -33,6 +33,24 @@ pub struct Draft {
     pub downlink_fields: DownlinkFields,
 }
 
+/// The fields of format 0_1, whose time domain assignment and sounding resources a draft says.
+const UPLINK: UplinkFields = UplinkFields {
+    bwps: 0,
+    allocation: Allocation::Type1,
+    rbg_config: 1,
+    tdra: 4,
+    hopping: false,
+    second_dai: false,
+    transform: false,
+    dmrs_type: 1,
+    dmrs_length: 1,
+    srs_resources: 1,
+    csi_request: 0,
+    cbg: 0,
+    ptrs: false,
+    beta: false,
+};
+
 /// The fields of format 1_1 with the fewest bits that are used here.
 const NARROW: DownlinkFields = DownlinkFields {
     bwps: 0,
@@ -341,6 +359,25 @@ impl Draft {
 
     /// Its handset.
     fn handset(&self, rt: &impl Abort) -> Handset {
+        Handset {
+            name: Name::of(b"alpha").expect(rt, "a name"),
+            rnti: self.rnti,
+            downlink: self.downlink,
+            uplink: self.uplink,
+            codebook: self.codebook,
+            coresets: self.coresets(),
+            sets: self.sets(rt),
+            uplink_fields: Some(UplinkFields {
+                tdra: self.tdra,
+                srs_resources: self.srs_resources,
+                ..UPLINK
+            }),
+            downlink_fields: Some(self.downlink_fields),
+        }
+    }
+
+    /// Its CORESETs.
+    fn coresets(&self) -> ArrayVec<Coreset, 3> {
         let mut coresets = ArrayVec::new();
         coresets.push(Coreset {
             number: 1,
@@ -358,6 +395,11 @@ impl Draft {
                 dmrs_id: None,
             });
         }
+        coresets
+    }
+
+    /// Its search space sets.
+    fn sets(&self, rt: &impl Abort) -> ArrayVec<SearchSet, 10> {
         let mut sets = ArrayVec::new();
         for set in [self.first, self.second, self.third, self.fourth] {
             if let Some(set) = set {
@@ -365,31 +407,6 @@ impl Draft {
                 sets.push(set);
             }
         }
-        Handset {
-            name: Name::of(b"alpha").expect(rt, "a name"),
-            rnti: self.rnti,
-            downlink: self.downlink,
-            uplink: self.uplink,
-            codebook: self.codebook,
-            coresets,
-            sets,
-            uplink_fields: Some(UplinkFields {
-                bwps: 0,
-                allocation: Allocation::Type1,
-                rbg_config: 1,
-                tdra: self.tdra,
-                hopping: false,
-                second_dai: false,
-                transform: false,
-                dmrs_type: 1,
-                dmrs_length: 1,
-                srs_resources: self.srs_resources,
-                csi_request: 0,
-                cbg: 0,
-                ptrs: false,
-                beta: false,
-            }),
-            downlink_fields: Some(self.downlink_fields),
-        }
+        sets
     }
 }

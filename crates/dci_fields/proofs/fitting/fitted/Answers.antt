@@ -1,7 +1,6 @@
-use Rattle.std.proofs.Common.{◌≡◌, ◌≤◌, ◌-◌, ℕ, List, subst, sym, ap, ◌∙◌, arith}
+use Rattle.std.proofs.Common.{◌-◌, ℕ, List, subst, sym, ap, ◌∙◌}
 use Rattle.dci_fields.specs.declared.rows.FieldRow.{FieldRow}
 use Rattle.dci_fields.specs.FieldLists.{IsFieldList}
-use Rattle.dci_fields.specs.FittedRows.{excess}
 use Rattle.dci_fields.proofs.RowLists.{fitted_is_list, cut_list}
 use Rattle.dci_fields.proofs.fitting.fitted.Goals as goal
 

@@ -1,4 +1,4 @@
-use Rattle.std.proofs.Common.{◌≡◌, ◌≤◌, List, get_or, subst, sym}
+use Rattle.std.proofs.Common.{◌≤◌, List, get_or, subst, sym}
 use Rattle.dci_fields.specs.declared.names.FieldName.TheVariants as names
 use Rattle.dci_fields.specs.declared.rows.FieldRow.{FieldRow}
 use Rattle.dci_fields.proofs.RowLists.{second_width}

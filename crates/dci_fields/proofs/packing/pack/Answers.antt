@@ -1,6 +1,5 @@
-use Rattle.std.proofs.Common.{◌≡◌, ◌↔◌, Bool, List, Ok, Err, subst, sym}
+use Rattle.std.proofs.Common.{List, subst}
 use Rattle.dci_fields.specs.declared.rows.FieldRow.{FieldRow}
-use Rattle.dci_fields.specs.declared.fault.FieldFault.{FieldFault}
 use Rattle.dci_fields.specs.GivenValues.{IsPacked}
 use Rattle.dci_fields.proofs.PackingOutcomes.{packed_exactly, fault_exactly, result_size}
 use Rattle.dci_fields.proofs.packing.pack.Goals as goal

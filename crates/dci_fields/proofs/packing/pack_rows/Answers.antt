@@ -1,4 +1,4 @@
-use Rattle.std.proofs.Common.{◌≡◌, ◌<◌, ◌≤◌, ◌^◌, ℕ, arith, sym, subst, ap, get_or, ◌++◌, ◌∙◌}
+use Rattle.std.proofs.Common.{◌<◌, ◌^◌, ℕ, arith, sym, subst, ap, get_or, ◌++◌, ◌∙◌}
 use Rattle.bits_core.specs.Bits.{bits_of}
 use Rattle.dci_fields.specs.Payloads.{is_allowed}
 use Rattle.dci_fields.specs.declared.names.FieldName.TheVariants as names

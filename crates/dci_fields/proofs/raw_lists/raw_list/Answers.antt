@@ -1,7 +1,6 @@
-use Rattle.std.proofs.Common.{◌≡◌, subst, sym, ap, ◌∙◌, get_or, length}
+use Rattle.std.proofs.Common.{subst, sym, ap, ◌∙◌}
 use Rattle.rrc_settings.specs.declared.settings.Handset.{Handset}
 use Rattle.rrc_settings.specs.declared.settings.RawCell.{RawCell}
-use Rattle.dci_fields.specs.HandsetsOfCell.{no_handset, handset_at}
 use Rattle.dci_fields.specs.LegalSettings.{AreInitialParts, IsLegalHandset}
 use Rattle.dci_fields.proofs.LegalSettings.{legal_initial, legal_handset, handset_indexed}
 use Rattle.dci_fields.proofs.raw_lists.raw_list.Goals as goal

@@ -1,6 +1,6 @@
 use Rattle.std.proofs.Common.{◌≡◌, ℕ, ◌+◌, ◌<◌, ◌≤◌, List, ◌++◌, true, false, cond, All, length, Result, Ok, Err, sym, ap, ◌∙◌, subst, arith}
 use Rattle.arrayvec.specs.ArrayVec.{ArrayVec}
-use Rattle.coreset_map.specs.ResourcesOfCell.{handset_at}
+use Rattle.rrc_settings.specs.HandsetsOfCell.{handset_at}
 use Rattle.monitor_budget.specs.declared.allotment.Allotment.{Allotment}
 use Rattle.monitor_budget.specs.declared.allotment.CommonOver.{CommonOver}
 use Rattle.monitor_budget.specs.Allotting.{common_sets, allotment_of, allotted, keep_limits, longest_front}

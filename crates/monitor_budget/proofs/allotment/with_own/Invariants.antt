@@ -1,5 +1,5 @@
 use Rattle.std.proofs.Common.{◌≡◌, ◌++◌, true, take}
-use Rattle.coreset_map.specs.ResourcesOfCell.{handset_at}
+use Rattle.rrc_settings.specs.HandsetsOfCell.{handset_at}
 use Rattle.monitor_budget.specs.Tally.{Tallies}
 use Rattle.monitor_budget.specs.Allotting.{allotment_of, keep_limits}
 use Rattle.monitor_budget.proofs.allotment.with_own.Given as goal

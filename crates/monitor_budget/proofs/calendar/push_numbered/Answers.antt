@@ -3,7 +3,7 @@ use Rattle.std.specs.List.{range_with_len, filter}
 use Rattle.std.proofs.lemmas.List.{append_assoc}
 use Rattle.arrayvec.specs.ArrayVec.{ArrayVec}
 use Rattle.rrc_settings.specs.declared.settings.Handset.{Handset}
-use Rattle.coreset_map.specs.ResourcesOfCell.{handset_at}
+use Rattle.rrc_settings.specs.HandsetsOfCell.{handset_at}
 use Rattle.monitor_budget.specs.Allotting.{is_searched, numbered_sets}
 use Rattle.monitor_budget.proofs.Ranges.{filter_range_more, filter_range_same}
 use Rattle.monitor_budget.proofs.SearchOrder.{push-room}

@@ -1,6 +1,6 @@
 use Rattle.std.proofs.Common.{◌≡◌, ◌-◌}
 use Rattle.std.specs.List.{range_with_len, flat_map}
-use Rattle.coreset_map.specs.ResourcesOfCell.{handset_at}
+use Rattle.rrc_settings.specs.HandsetsOfCell.{handset_at}
 use Rattle.monitor_budget.specs.Allotting.{numbered_sets}
 use Rattle.monitor_budget.proofs.calendar.sets_in_slot.Given as goal
 

@@ -1,7 +1,7 @@
 use Rattle.std.proofs.Common.{◌≡◌, ℕ, ◌≤◌, List, ◌++◌, All, sym, ap, ◌∙◌, subst}
 use Rattle.rrc_settings.specs.declared.settings.Handset.{Handset}
 use Rattle.rrc_settings.specs.declared.settings.SearchSet.{SearchSet}
-use Rattle.coreset_map.specs.ResourcesOfCell.{handset_at}
+use Rattle.rrc_settings.specs.HandsetsOfCell.{handset_at}
 use Rattle.monitor_budget.specs.declared.candidates.Candidate.{Candidate}
 use Rattle.monitor_budget.specs.Counts.{set_at, cces_under, candidates_of}
 use Rattle.monitor_budget.specs.SetCandidates.{AreAsked, IsPlaced, sizes_in, set_candidates}

@@ -1,7 +1,8 @@
 use Rattle.std.proofs.Common.{◌≡◌, sym, ap, ◌∙◌}
 use Rattle.rrc_settings.specs.declared.settings.Coreset.{Coreset}
 use Rattle.coreset_map.specs.ControlResources.{Resources, cce_count}
-use Rattle.coreset_map.specs.ResourcesOfCell.{handset_at, resources_in}
+use Rattle.rrc_settings.specs.HandsetsOfCell.{handset_at}
+use Rattle.coreset_map.specs.ResourcesOfCell.{resources_in}
 use Rattle.monitor_budget.specs.Counts.{set_at}
 use Rattle.monitor_budget.proofs.LegalSearchSets.{legal-set, are-asked}
 use Rattle.monitor_budget.proofs.sets.cces_under.Goals as goal

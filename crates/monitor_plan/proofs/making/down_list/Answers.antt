@@ -4,7 +4,7 @@ use Rattle.rrc_settings.specs.declared.settings.SearchSet.{SearchSet}
 use Rattle.rrc_settings.specs.declared.settings.SetKind.{SetKind}
 use Rattle.dci_fields.specs.declared.sizes.Sizes.{Sizes}
 use Rattle.dci_fields.specs.Alignment.{sizes_of}
-use Rattle.coreset_map.specs.ResourcesOfCell.{handset_at}
+use Rattle.rrc_settings.specs.HandsetsOfCell.{handset_at}
 use Rattle.monitor_budget.specs.Counts.{set_at}
 use Rattle.monitor_plan.specs.Watches.{down_format, down_size, widths_in}
 use Rattle.monitor_plan.proofs.FittingSizes.{SetFit}

@@ -1,5 +1,5 @@
 use Rattle.std.proofs.Common.{◌∙◌}
-use Rattle.coreset_map.specs.ResourcesOfCell.{handset_at}
+use Rattle.rrc_settings.specs.HandsetsOfCell.{handset_at}
 use Rattle.monitor_budget.specs.Counts.{set_at}
 use Rattle.monitor_plan.proofs.WatchParts.{set-made}
 use Rattle.monitor_plan.proofs.making.push_set.Goals as goal

@@ -2,7 +2,7 @@ use Rattle.std.proofs.Common.{◌≡◌, ℕ, sym, ap, ◌∙◌}
 use Rattle.rrc_settings.specs.declared.settings.Handset.{Handset}
 use Rattle.coreset_map.specs.ControlResources.{Resources}
 use Rattle.coreset_map.specs.Candidates.{candidate_regs}
-use Rattle.coreset_map.specs.ResourcesOfCell.{handset_at}
+use Rattle.rrc_settings.specs.HandsetsOfCell.{handset_at}
 use Rattle.monitor_budget.specs.Counts.{set_at}
 use Rattle.monitor_plan.proofs.WatchParts.{watch-made}
 use Rattle.monitor_plan.proofs.making.watch_of.Goals as goal

@@ -1,5 +1,5 @@
 use Rattle.std.proofs.Common.{◌≡◌, ℕ, List, ◌++◌, ◌∙◌, sym, ap}
-use Rattle.coreset_map.specs.ResourcesOfCell.{handset_at}
+use Rattle.rrc_settings.specs.HandsetsOfCell.{handset_at}
 use Rattle.monitor_budget.specs.Counts.{set_at}
 use Rattle.monitor_plan.specs.Watches.{set_watches}
 use Rattle.monitor_plan.proofs.WatchParts.{watches-none, watches-more, watches-all}

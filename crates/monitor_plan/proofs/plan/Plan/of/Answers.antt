@@ -1,5 +1,5 @@
 use Rattle.std.proofs.Common.{◌≡◌, ℕ, List, Ok, sym, ap, ◌∙◌, subst}
-use Rattle.coreset_map.specs.ResourcesOfCell.{handset_at}
+use Rattle.rrc_settings.specs.HandsetsOfCell.{handset_at}
 use Rattle.monitor_plan.specs.Planned.{planned}
 use Rattle.monitor_plan.specs.Watches.{watches_of}
 use Rattle.monitor_plan.proofs.Plans.{IsMade, plan-fits, plan-over, plan-made, made-not_over, memory-not_over, over-exactly}
