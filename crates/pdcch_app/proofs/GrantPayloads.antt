@@ -1,6 +1,5 @@
 -- The payload of a first grant: its values have no fault.
-use Rattle.std.proofs.Common.{◌≡◌, ℕ, suc, zero, ◌+◌, ◌*◌, ◌^◌, ◌<◌, ◌≤◌, Bool, true, false, List, [], ◌∷◌, Option, Some, None, slice_get, get_or, length, IsTrue, refl, ap, sym, subst, ◌∙◌, arith, lit<, eqb-true, unwrap_or}
-use Rattle.std.specs.List.{Contains}
+use Rattle.std.proofs.Common.{◌≡◌, ℕ, suc, zero, ◌+◌, ◌^◌, ◌<◌, ◌≤◌, Bool, List, [], ◌∷◌, Some, slice_get, get_or, length, IsTrue, refl, ap, sym, subst, ◌∙◌, arith, eqb-true, unwrap_or}
 use Rattle.dci_fields.specs.declared.fault.FieldFault.{FieldFault}
 use Rattle.dci_fields.specs.declared.fault.FieldFault.TheVariants.{Unknown, TooLarge, AllOnes}
 use Rattle.dci_fields.specs.declared.fault.Given.{Given}
@@ -8,10 +7,11 @@ use Rattle.dci_fields.specs.declared.formats.Format.TheVariants.{F10}
 use Rattle.dci_fields.specs.declared.names.FieldName.TheVariants as names
 use Rattle.dci_fields.specs.declared.rows.FieldRow.{FieldRow}
 use Rattle.dci_fields.specs.FormatRows.{rows_10}
-use Rattle.dci_fields.specs.GivenValues.{settled, width_for, last_value, IsFieldFault, IsPayloadOf}
+use Rattle.dci_fields.specs.GivenValues.{settled, width_for, IsFieldFault, IsPayloadOf}
 use Rattle.dci_fields.specs.Payloads.{payload_of, is_all_ones}
 use Rattle.pdcch_app.specs.declared.first_grant.FirstGrant.{FirstGrant}
-use Rattle.pdcch_app.specs.declared.watch.Watch.{Watch}
+use Rattle.monitor_plan.specs.declared.watch.Watch.{Watch}
+use Rattle.monitor_plan.specs.Watch.{list_of}
 use Rattle.pdcch_app.specs.Granted.{IsInRange}
 use Rattle.pdcch_app.specs.Written.{given as given_for, given_by, payload_at}
 
@@ -24,7 +24,7 @@ first_open : (grant : FirstGrant) → IsInRange grant → AreOpen (given_by gran
 first_open grant h =
     ((11, refl, omega (arith, h.fdra)), ((4, refl, omega (arith, h.harq)), ((5, refl, omega (arith, h.mcs)), ((1, refl, omega (arith, h.ndi)), ((3, refl, omega (arith, h.pucch)), ((4, refl, omega (arith, h.tdra)), ((3, refl, omega (arith, h.timing)), ((2, refl, omega (arith, h.tpc)), tt))))))))
 
-some_once : {X : Type 0} (x y : X) → Some x ≡ Some y → x ≡ y
+pub some_once : {X : Type 0} (x y : X) → Some x ≡ Some y → x ≡ y
 some_once x y e = cc
 
 open_at : (given : List Given) (at : ℕ) (g : Given) → AreOpen given → slice_get given at ≡ Some g
@@ -75,14 +75,15 @@ no_fault grant rows given fault h r g k =
     no_fault_in grant h fault (subst Q g (subst P r k))
 
 -- what is packed is the payload at the watch
-pub packed_is : (w : Watch) (grant : FirstGrant) (given : List Given) (size : ℕ) (payload : List Bool) → given ≡ given_by grant → size ≡ w.size
-    → IsPayloadOf w.down F10 given size payload → payload ≡ payload_at w grant
+pub packed_is : (w : Watch) (grant : FirstGrant) (rows : List FieldRow) (given : List Given) (size : ℕ) (payload : List Bool) → w.down ≡ Some rows
+    → given ≡ given_by grant → size ≡ w.size → IsPayloadOf rows F10 given size payload → payload ≡ payload_at w grant
 unfolding payload_at
-packed_is w grant given size payload g s k =
-    let P : List Given → Type 0 = λ x. payload_of w.down F10 (settled w.down F10 x) size ≡ Some payload in
-    let Q : ℕ → Type 0 = λ n. payload_of w.down F10 (settled w.down F10 (given_by grant)) n ≡ Some payload in
-    let is : payload_of w.down F10 (settled w.down F10 (given_by grant)) w.size ≡ Some payload = subst Q s (subst P g k.packs) in
-    sym (ap (λ p. unwrap_or p []) is)
+packed_is w grant rows given size payload d g s k =
+    let same : rows ≡ list_of w F10 = sym (ap (λ list. unwrap_or list []) d) in
+    let P : List Given → Type 0 = λ x. payload_of rows F10 (settled rows F10 x) size ≡ Some payload in
+    let Q : ℕ → Type 0 = λ n. payload_of rows F10 (settled rows F10 (given_by grant)) n ≡ Some payload in
+    let R : List FieldRow → Type 0 = λ x. payload_of x F10 (settled x F10 (given_by grant)) w.size ≡ Some payload in
+    sym (ap (λ p. unwrap_or p []) (subst R same (subst Q s (subst P g k.packs))))
 
 -- eight values are those of a first grant
 pub list_is : (grant : FirstGrant) (a b c d e f g h : Given) → a ≡ given_for names.Fdra grant.fdra → b ≡ given_for names.Harq grant.harq

@@ -1,13 +1,13 @@
 pub mod Taking
 pub mod Working
 pub mod Completing
-pub mod GridTexts
 pub mod Writings
 pub mod RunPromises
 pub mod Scrambles
 pub mod FieldValues
-pub mod FirstGrids
+pub mod WatchLists
 pub mod Hearings
-pub mod TableCodes
+pub mod CodableBlocks
+pub mod FirstPlans
 pub mod FirstWatches
 pub mod GrantPayloads

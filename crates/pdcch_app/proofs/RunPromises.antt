@@ -1,18 +1,20 @@
 -- The promises of a run, from what it leaves.
-use Rattle.std.proofs.Common.{◌≡◌, ◌<◌, ◌≤◌, ◌⊎◌, inl, inr, ⊎_elim, ℕ, true, false, cond, List, [], ◌∷◌, Option, Some, None, Result, Ok, String, codes, length, refl, sym, ap, ◌∙◌, subst, arith, append-nil}
+use Rattle.std.proofs.Common.{◌≡◌, ◌<◌, ◌≤◌, ◌⊎◌, inl, inr, ⊎_elim, ℕ, true, false, cond, List, [], ◌∷◌, Option, Some, None, Result, Ok, String, codes, length, refl, sym, ap, ◌∙◌, subst, arith, append-nil, ◌==◌}
 use Rattle.std.specs.declared.alloc.Global.{Global}
 use Rattle.outside.specs.Taken.{Takes}
 use Rattle.pdcch_app.specs.declared.status.Status.{Status}
 use Rattle.pdcch_app.specs.declared.status.Status.TheVariants as ends
 use Rattle.pdcch_app.specs.declared.first_grant.FirstGrant.{FirstGrant}
+use Rattle.grid_file.specs.FoundGrid.{reading_of}
 use Rattle.grant_file.specs.First.{first_fault_in as first_grants_fault, grants_in}
 use Rattle.settings_json.specs.First.{first_fault_in, raw_in}
+use Rattle.std.proofs.lemmas.Bool.Decides.{nat_tests}
+use Rattle.rrc_settings.specs.declared.settings.RawCell.{RawCell}
 use Rattle.slot_grid.specs.Grid.{GridValue}
 use Rattle.table_files.specs.TableText.{read_table}
 use Rattle.pdcch_app.specs.FirstCells.{is_first}
 use Rattle.pdcch_app.specs.FirstGrants.{first_grant_of}
-use Rattle.pdcch_app.specs.FirstGrid.{grid_in}
-use Rattle.pdcch_app.specs.FirstForms.{settings_of, settings_found, built, first_numerology, grants_found, grant_of, grid_of, reliability_of, input_order_of, table_found}
+use Rattle.pdcch_app.specs.FirstForms.{settings_of, settings_found, built, first_numerology, grants_found, grant_of, grid_fitting, grid_read, grid_of, reliability_of, input_order_of, table_found}
 use Rattle.pdcch_app.specs.Outcome.{Outcome, Refusal, Fetched, given_of, limit, is_done, no_memory, reading}
 use Rattle.pdcch_app.specs.Outcomes.{outcome, served}
 use Rattle.pdcch_app.specs.Promises.{EndsAsReadFault, EndsAsWriteFault, RefusesSilently, RefusesWords, WritesFirstCells, SearchesFirstCells}
@@ -71,9 +73,18 @@ grant-read : (name bytes : List ℕ) (grant : FirstGrant) → first_grants_fault
 unfolding grant_of
 grant-read name bytes grant e f = ap (λ found. grants_found name found (grants_in bytes)) e ∙ ap (built name) f
 
-grid-read : (name bytes : List ℕ) (grid : GridValue) → grid_in bytes ≡ Some grid → grid_of name bytes ≡ Ok grid
+equal_numbers : (a b : ℕ) → a ≡ b → (a == b) ≡ true
+equal_numbers a b e = grind (arith, nat_tests)
+
+grid-fits : (cell : RawCell) (name : List ℕ) (grid : GridValue) → grid.mu ≡ cell.mu → grid.blocks ≡ cell.blocks → grid.frame ≡ 0 → grid.slot ≡ 0
+    → grid_fitting cell name grid ≡ Ok grid
+grid-fits cell name grid m b f s =
+    rw (equal_numbers grid.mu cell.mu m, equal_numbers grid.blocks cell.blocks b, equal_numbers grid.frame 0 f, equal_numbers grid.slot 0 s) refl
+
+grid-read : (cell : RawCell) (name bytes : List ℕ) (grid : GridValue) → reading_of bytes ≡ Ok grid → grid.mu ≡ cell.mu → grid.blocks ≡ cell.blocks
+    → grid.frame ≡ 0 → grid.slot ≡ 0 → grid_of cell name bytes ≡ Ok grid
 unfolding grid_of
-grid-read name bytes grid e = rw e refl
+grid-read cell name bytes grid e m b f s = ap (grid_read cell name) e ∙ grid-fits cell name grid m b f s
 
 reliability-read : (bytes numbers : List ℕ) → read_table 1024 bytes ≡ Ok numbers → reliability_of bytes ≡ Ok numbers
 unfolding reliability_of
@@ -93,10 +104,11 @@ writes_first_cells words settings reliability input_order grants tables grant w 
     ∙ went (grant_of (file words 3)) (file words 3) _ grants _ grant hg (grant-read (file words 3) grants grant j g)
 
 pub searches_first_cells : SearchesFirstCells
-searches_first_cells words settings reliability input_order grid tables points w hs hr hi hg s f r i g =
+searches_first_cells words settings reliability input_order grid tables points w hs hr hi hg s f r i g mu blocks frame slot =
     let gave : List Fetched = given_of settings ∷ given_of reliability ∷ given_of input_order ∷ given_of grid ∷ [] in
     ap (λ c. served c words gave) w
     ∙ went (settings_of (file words 0)) (file words 0) _ settings _ (raw_in settings) hs (settings-read (file words 0) settings s f)
     ∙ went reliability_of (file words 1) _ reliability _ tables.reliability hr (reliability-read reliability tables.reliability r)
     ∙ went input_order_of (file words 2) _ input_order _ tables.input_order hi (input_order-read input_order tables.input_order i)
-    ∙ went (grid_of (file words 3)) (file words 3) _ grid _ points hg (grid-read (file words 3) grid points g)
+    ∙ went (grid_of (raw_in settings) (file words 3)) (file words 3) _ grid _ points hg
+    (grid-read (raw_in settings) (file words 3) grid points g mu blocks frame slot)

@@ -6,7 +6,7 @@ use Rattle.pdcch_app.specs.declared.status.Status.{Status}
 use Rattle.pdcch_app.specs.declared.status.Status.TheVariants as status
 use Rattle.pdcch_app.specs.declared.stop.Stop.{Stop}
 use Rattle.pdcch_app.specs.declared.stop.Stop.TheVariants.{OutOfMemory, Ended}
-use Rattle.pdcch_app.specs.Outcome.{Outcome, Cause, BadSettings, BadTable, BadGrants, Unbuilt, Refusal, Printed, Fetched, Bytes, TooLong, Fault, checked, ended, unread, read_as, reading, status_of, and_then}
+use Rattle.pdcch_app.specs.Outcome.{Outcome, Cause, BadSettings, BadTable, BadGrants, BadGrid, Unbuilt, Refusal, Printed, Fetched, Bytes, TooLong, Fault, checked, ended, unread, read_as, reading, status_of, and_then}
 use Rattle.pdcch_app.specs.Steps.{Step, Work, IsGiven, AreGiven, IsRead, Ends, EndsWith, IsShort, ReadsWith}
 use Rattle.pdcch_app.proofs.Taking.{given-unread}
 
@@ -39,12 +39,14 @@ cause-read : (cause : Cause) → status_of cause ≡ status.ReadFault → ⊥
 cause-read BadSettings e = cc
 cause-read BadTable e = cc
 cause-read BadGrants e = cc
+cause-read BadGrid e = cc
 cause-read Unbuilt e = cc
 
 cause-long : (cause : Cause) → status_of cause ≡ status.FileTooLong → ⊥
 cause-long BadSettings e = cc
 cause-long BadTable e = cc
 cause-long BadGrants e = cc
+cause-long BadGrid e = cc
 cause-long Unbuilt e = cc
 
 -- only a fault ends a reading as a fault, and only too many bytes as too long

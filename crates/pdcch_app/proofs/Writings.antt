@@ -1,5 +1,5 @@
 -- The grid of a grant, stage by stage.
-use Rattle.std.proofs.Common.{◌≡◌, ℕ, ◌*◌, ◌+◌, List, Bool, length, ap, sym, ◌∙◌, arith}
+use Rattle.std.proofs.Common.{◌≡◌, ℕ, ◌*◌, ◌+◌, List, Bool, length, ap, ◌∙◌, arith}
 use Rattle.crc_mask.specs.Parity.{masked}
 use Rattle.dmrs_qpsk.specs.PointsOnGrid.{image_of}
 use Rattle.polar_chain.specs.CodeOfBlock.{code_by}
@@ -9,10 +9,10 @@ use Rattle.slot_grid.specs.Grid.{GridValue}
 use Rattle.slot_grid.specs.Image.{overwritten, blank_grid}
 use Rattle.table_files.specs.declared.tables.Tables.{Tables}
 use Rattle.pdcch_app.specs.declared.first_grant.FirstGrant.{FirstGrant}
-use Rattle.pdcch_app.specs.declared.watch.Watch.{Watch}
+use Rattle.monitor_plan.specs.declared.watch.Watch.{Watch}
 use Rattle.pdcch_app.specs.BlockImage.{block_image}
 use Rattle.pdcch_app.specs.Scrambling.{scrambled}
-use Rattle.pdcch_app.specs.Watches.{IsWatch}
+use Rattle.monitor_plan.specs.Watch.{IsSound}
 use Rattle.pdcch_app.specs.Written.{first_watch, grid_of_grant, payload_at}
 use Rattle.pdcch_app.proofs.Scrambles.{length-scrambled}
 
@@ -47,7 +47,7 @@ pub block_fits : (reliability input_order : List ℕ) (w : Watch) (s : CodeShape
 block_fits reliability input_order w s payload block by p b = b ∙ omega (arith, p, by.block_is)
 
 -- and as many are sent as the REGs have places for
-pub bits_fit : (reliability input_order : List ℕ) (w : Watch) (s : CodeShape) (code bits : List Bool) → IsWatch w
+pub bits_fit : (reliability input_order : List ℕ) (w : Watch) (s : CodeShape) (code bits : List Bool) → IsSound w
     → IsByTables reliability input_order (w.size + 24) (108 * w.level) s → length code ≡ s.coded_len → bits ≡ scrambled w.scramble code
     → length bits ≡ 18 * length w.regs.items
 bits_fit reliability input_order w s code bits keeps by c e =

@@ -5,7 +5,7 @@ use Rattle.table_files.specs.declared.tables.Tables.{Tables}
 use Rattle.polar_chain.specs.CodeOfBlock.{code_by}
 use Rattle.pdcch_app.specs.Scrambling.{scrambled}
 use Rattle.dmrs_qpsk.specs.PointsOnGrid.{image_of}
-use Rattle.pdcch_app.specs.declared.watch.Watch.{Watch}
+use Rattle.monitor_plan.specs.declared.watch.Watch.{Watch}
 
 -- the block's code by the tables, 108 bits a CCE, scrambled, on the REGs of the watch, for a slot
 unfoldable pub block_image : Tables → ℕ → Watch → List Bool → Image

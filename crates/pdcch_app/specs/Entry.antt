@@ -3,9 +3,9 @@ use Rattle.std.specs.Prelude.{List}
 use Rattle.dci_fields.specs.declared.formats.Format.{Format}
 use Rattle.dci_fields.specs.declared.values.FieldValue.{FieldValue}
 use Rattle.dci_fields.specs.Payloads.{shown}
-use Rattle.pdcch_app.specs.declared.watch.Watch.{Watch}
+use Rattle.monitor_plan.specs.declared.watch.Watch.{Watch}
+use Rattle.monitor_plan.specs.Watch.{list_of}
 use Rattle.pdcch_app.specs.Spelling.{Spelling}
-use Rattle.pdcch_app.specs.Watches.{list_of}
 
 pub record Entry : Type 0 where
   pub format : Format

@@ -1,4 +1,4 @@
--- The lines that say what is wrong with a file: the settings, a table, the grants.
+-- The lines that say what is wrong with a file: the settings, a table, the grants, a grid.
 use Rattle.std.specs.Prelude.{ℕ, List, [], ◌∷◌, ◌++◌, Bool, true, false, cond, Option, Some, None, codes}
 use Rattle.std.specs.List.{flat_map}
 use Rattle.std.specs.Fmt.{decimal}
@@ -67,3 +67,11 @@ grant_place_text (Some grant) key =
 -- the line on grants
 unfoldable pub grants_line : GrantFault → List ℕ
 grants_line fault = codes "error: grants: " ++ grant_place_text fault.place.grant fault.place.key ++ codes ": " ++ reason_text fault.reason
+
+-- the line on bytes that are no grid's text
+unfoldable pub grid_place_line : ℕ → List ℕ
+grid_place_line at = codes "error: grid: byte " ++ decimal at
+
+-- the line on a number of a grid, behind its word, that is not the settings' number, which stands last
+unfoldable pub grid_number_line : List ℕ → ℕ → ℕ → List ℕ
+grid_number_line word grid settings = codes "error: grid: " ++ word ++ codes " " ++ decimal grid ++ codes " " ++ decimal settings

@@ -1,7 +1,8 @@
--- What each file has to be for now: legal settings of a first cell, two tables, first grants, and one form of the grid.
-use Rattle.std.specs.Prelude.{ℕ, cond, List, ◌++◌, Option, Some, None, Result, Ok, Err, codes}
+-- What each file has to be for now: legal settings of a first cell, two tables, first grants, and a grid of these settings in frame 0 and slot 0.
+use Rattle.std.specs.Prelude.{ℕ, ◌==◌, ◌&&◌, cond, List, ◌++◌, Option, Some, None, Result, Ok, Err, codes}
 use Rattle.grant_file.specs.declared.grants.GrantList.{GrantList}
 use Rattle.grant_file.specs.Faults as grants
+use Rattle.grid_file.specs.FoundGrid.{reading_of}
 use Rattle.grant_file.specs.First.{first_fault_in as first_grants_fault, grants_in}
 use Rattle.rrc_settings.specs.Faults.{Finding}
 use Rattle.rrc_settings.specs.declared.settings.RawCell.{RawCell}
@@ -10,11 +11,10 @@ use Rattle.slot_grid.specs.Grid.{GridValue}
 use Rattle.table_files.specs.TableText.{read_table}
 use Rattle.table_files.specs.declared.fault.TableFault.{TableFault}
 use Rattle.pdcch_app.specs.declared.first_grant.FirstGrant.{FirstGrant}
-use Rattle.pdcch_app.specs.FaultText.{settings_line, table_line, grants_line}
+use Rattle.pdcch_app.specs.FaultText.{settings_line, table_line, grants_line, grid_place_line, grid_number_line}
 use Rattle.pdcch_app.specs.FirstCells.{is_first}
 use Rattle.pdcch_app.specs.FirstGrants.{first_grant_of}
-use Rattle.pdcch_app.specs.FirstGrid.{grid_in}
-use Rattle.pdcch_app.specs.Outcome.{Refusal, BadSettings, BadTable, BadGrants, Unbuilt}
+use Rattle.pdcch_app.specs.Outcome.{Refusal, BadSettings, BadTable, BadGrants, BadGrid, Unbuilt}
 
 -- what was found, or that a file is not built yet
 abbrev pub built : {A : Type 0} → List ℕ → Option A → Result A Refusal
@@ -41,8 +41,22 @@ reliability_of bytes = table_found (codes "error: reliability: ") (read_table 10
 unfoldable pub input_order_of : List ℕ → Result (List ℕ) Refusal
 input_order_of bytes = table_found (codes "error: input order: ") (read_table 164 bytes)
 
-unfoldable pub grid_of : List ℕ → List ℕ → Result GridValue Refusal
-grid_of name bytes = built name (grid_in bytes)
+-- a grid of the settings' numerology and then blocks, in frame 0 and slot 0, or why it is refused
+abbrev pub grid_fitting : RawCell → List ℕ → GridValue → Result GridValue Refusal
+grid_fitting cell name grid =
+    cond (grid.mu == cell.mu)
+    (cond (grid.blocks == cell.blocks)
+    (built name (cond (grid.frame == 0 && grid.slot == 0) (Some grid) None))
+    (Err (record { cause = BadGrid; line = grid_number_line (codes "blocks") grid.blocks cell.blocks })))
+    (Err (record { cause = BadGrid; line = grid_number_line (codes "mu") grid.mu cell.mu }))
+
+-- the grid that was read, or the place where the bytes leave every grid's text
+abbrev pub grid_read : RawCell → List ℕ → Result GridValue ℕ → Result GridValue Refusal
+grid_read cell name (Ok grid) = grid_fitting cell name grid
+grid_read cell name (Err at) = Err (record { cause = BadGrid; line = grid_place_line at })
+
+unfoldable pub grid_of : RawCell → List ℕ → List ℕ → Result GridValue Refusal
+grid_of cell name bytes = grid_read cell name (reading_of bytes)
 
 -- the numerology of the first cells
 abbrev pub first_numerology : ℕ

@@ -7,11 +7,12 @@ use Rattle.slot_grid.specs.Grid.{GridValue}
 use Rattle.slot_grid.specs.Image.{Agrees}
 use Rattle.table_files.specs.declared.tables.Tables.{Tables}
 use Rattle.table_files.specs.Permutation.{IsTable}
-use Rattle.pdcch_app.specs.declared.watch.Watch.{Watch}
+use Rattle.monitor_plan.specs.declared.watch.Watch.{Watch}
 use Rattle.pdcch_app.specs.BlockImage.{block_image}
 use Rattle.pdcch_app.specs.Entry.{Entry}
 use Rattle.pdcch_app.specs.Spelling.{Spelling, spelled}
-use Rattle.pdcch_app.specs.Watches.{IsWatch, is_monitored, list_of}
+use Rattle.monitor_plan.specs.Watch.{fits, list_of, IsSound}
+use Rattle.pdcch_app.specs.Watches.{HasLists}
 
 -- both tables are permutations
 abbrev pub AreTables : Tables → Type 0
@@ -25,15 +26,15 @@ AgreesWith tables grid watch payload = Agrees grid (block_image tables grid.slot
 abbrev pub IsCarried : Tables → GridValue → Watch → List Bool → Type 0
 IsCarried tables grid watch payload = (length payload ≡ watch.size) × AgreesWith tables grid watch payload
 
--- a payload is read at a watch as a format that is monitored there, with its shown fields
+-- a payload is read at a watch as a format that fits it, with its shown fields
 abbrev pub IsReadAs : Watch → List Bool → Entry → Type 0
 IsReadAs watch payload entry =
-    (is_monitored entry.format ≡ true) × Carries (list_of watch entry.format) entry.format watch.size payload entry.fields
+    (fits watch entry.format ≡ true) × Carries (list_of watch entry.format) entry.format watch.size payload entry.fields
 
--- the grid spells a format with its field values: the format is monitored, the values have a payload, and the grid agrees with
+-- the grid spells a format with its field values: the format fits the watch, the values have a payload, and the grid agrees with
 -- what it writes
 pub record Spells (tables : Tables) (grid : GridValue) (watch : Watch) (spelling : Spelling) : Type 0 where
-  pub monitored : is_monitored spelling.format ≡ true
+  pub fitting : fits watch spelling.format ≡ true
   pub payload : List Bool
   pub packs : payload_of (list_of watch spelling.format) spelling.format spelling.values watch.size ≡ Some payload
   pub agrees : AgreesWith tables grid watch payload
@@ -41,6 +42,6 @@ pub record Spells (tables : Tables) (grid : GridValue) (watch : Watch) (spelling
 -- what is found among all spellings is what the grid spells, so it spells at most one
 abbrev pub FindsWhatIsSpelled : Type 0
 FindsWhatIsSpelled =
-    (tables : Tables) (grid : GridValue) (watch : Watch) (spelling : Spelling) → AreTables tables → IsWatch watch →
+    (tables : Tables) (grid : GridValue) (watch : Watch) (spelling : Spelling) → AreTables tables → IsSound watch → HasLists watch →
     AreInside grid watch.symbol watch.regs.items →
     (spelled tables grid watch ≡ Some spelling) ↔ Spells tables grid watch spelling

@@ -5,7 +5,6 @@ pub mod FaultText
 pub mod FirstCells
 pub mod FirstGrants
 pub mod FirstForms
-pub mod GridText
 pub mod Written
 pub mod Outcomes
 pub mod Steps

@@ -53,6 +53,7 @@ pub data Cause : Type 0 where
   BadSettings : Cause
   BadTable : Cause
   BadGrants : Cause
+  BadGrid : Cause
   Unbuilt : Cause
 
 -- the status of a cause
@@ -60,6 +61,7 @@ abbrev pub status_of : Cause → Status
 status_of BadSettings = status.SettingsRefused
 status_of BadTable = status.TableRefused
 status_of BadGrants = status.GrantsFileRefused
+status_of BadGrid = status.GridRefused
 status_of Unbuilt = status.NotBuilt
 
 -- a cause and its line, without the line feed

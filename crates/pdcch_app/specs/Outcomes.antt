@@ -15,7 +15,7 @@ use Rattle.pdcch_app.specs.Entry.{entry_of}
 use Rattle.pdcch_app.specs.Report.{report}
 use Rattle.pdcch_app.specs.Spelling.{spelled}
 use Rattle.pdcch_app.specs.Written.{grid_of_grant, first_watch}
-use Rattle.pdcch_app.specs.GridText.{grid_text}
+use Rattle.grid_file.specs.GridText.{grid_text}
 
 -- the bytes themselves
 abbrev pub raw : List ℕ → Result (List ℕ) Refusal
@@ -51,7 +51,7 @@ search_of settings reliability input_order grid =
     reading (settings_of settings) settings (λ cell.
     reading reliability_of reliability (λ r.
     reading input_order_of input_order (λ i.
-    reading (grid_of grid) grid (λ points _. ended (searched cell (both r i) points)))))
+    reading (grid_of cell grid) grid (λ points _. ended (searched cell (both r i) points)))))
 
 -- the outcome of a command
 abbrev pub served : Option Command → List (String Global) → List Fetched → Outcome

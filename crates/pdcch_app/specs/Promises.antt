@@ -11,11 +11,11 @@ use Rattle.pdcch_app.specs.declared.first_grant.FirstGrant.{FirstGrant}
 use Rattle.slot_grid.specs.Grid.{GridValue}
 use Rattle.pdcch_app.specs.Entry.{entry_of}
 use Rattle.pdcch_app.specs.FirstCells.{is_first}
+use Rattle.grid_file.specs.FoundGrid.{reading_of}
+use Rattle.grid_file.specs.GridText.{grid_text}
 use Rattle.grant_file.specs.First.{first_fault_in as first_grants_fault, grants_in}
 use Rattle.pdcch_app.specs.FirstForms.{first_numerology}
 use Rattle.pdcch_app.specs.FirstGrants.{first_grant_of}
-use Rattle.pdcch_app.specs.FirstGrid.{grid_in}
-use Rattle.pdcch_app.specs.GridText.{grid_text}
 use Rattle.pdcch_app.specs.Outcome.{given_of, limit, is_done}
 use Rattle.pdcch_app.specs.Outcomes.{outcome}
 use Rattle.pdcch_app.specs.Ran.{Ran}
@@ -56,13 +56,14 @@ WritesFirstCells = (words : List (String Global)) (settings reliability input_or
     → outcome words (given_of settings ∷ given_of reliability ∷ given_of input_order ∷ given_of grants ∷ [])
     ≡ record { status = ends.Done; out = grid_text (grid_of_grant tables (raw_in settings) grant); err = [] }
 
--- legal settings of a first cell, any two tables and a first grid give the report of what the grid spells
+-- legal settings of a first cell, any two tables and the text of a grid of these settings in frame 0 and slot 0 give the report of what the grid spells
 abbrev pub SearchesFirstCells : Type 0
 SearchesFirstCells = (words : List (String Global)) (settings reliability input_order grid : List ℕ) (tables : Tables) (points : GridValue)
     → legal words ≡ Some Search
     → length settings ≤ limit → length reliability ≤ limit → length input_order ≤ limit → length grid ≤ limit
     → first_fault_in settings ≡ None → is_first (raw_in settings) ≡ true
-    → read_table 1024 reliability ≡ Ok tables.reliability → read_table 164 input_order ≡ Ok tables.input_order → grid_in grid ≡ Some points
+    → read_table 1024 reliability ≡ Ok tables.reliability → read_table 164 input_order ≡ Ok tables.input_order → reading_of grid ≡ Ok points
+    → points.mu ≡ (raw_in settings).mu → points.blocks ≡ (raw_in settings).blocks → points.frame ≡ 0 → points.slot ≡ 0
     → outcome words (given_of settings ∷ given_of reliability ∷ given_of input_order ∷ given_of grid ∷ [])
     ≡ record {
       status = ends.Done;

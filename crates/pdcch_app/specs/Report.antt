@@ -8,7 +8,7 @@ use Rattle.dci_fields.specs.declared.values.FieldValue.{FieldValue}
 use Rattle.dci_fields.specs.Formats.{format_word}
 use Rattle.dci_fields.specs.Words.{word_of}
 use Rattle.pdcch_app.specs.Entry.{Entry}
-use Rattle.pdcch_app.specs.declared.watch.Watch.{Watch}
+use Rattle.monitor_plan.specs.declared.watch.Watch.{Watch}
 
 -- the slot of the grid
 unfoldable pub slot_line : ℕ → ℕ → List ℕ

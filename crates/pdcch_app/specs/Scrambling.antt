@@ -1,5 +1,5 @@
 -- Scrambling (3GPP TS 38.211, 7.3.2.3): each coded bit is added to the sequence's bit of its place.
-use Rattle.std.specs.Prelude.{ℕ, Bool, List, map, length, ◌+◌, ◌*◌, ◌%◌, ◌^◌}
+use Rattle.std.specs.Prelude.{ℕ, Bool, List, map, length}
 use Rattle.std.specs.List.{range_with_len}
 use Rattle.bits_core.specs.Bits.{plus, bit_of}
 use Rattle.gold_scrambler.specs.Gold.{gold}
@@ -11,7 +11,3 @@ scrambled_bit c_init bits i = plus (bit_of bits i) (gold c_init i)
 -- the bits, added to the sequence of a start value
 abbrev pub scrambled : ℕ → List Bool → List Bool
 scrambled c_init bits = map (scrambled_bit c_init bits) (range_with_len 0 (length bits))
-
--- the start value of the scrambling sequence of an RNTI and an identity
-abbrev pub scramble_start : ℕ → ℕ → ℕ
-scramble_start rnti id = (rnti * 2 ^ 16 + id) % 2 ^ 31

@@ -10,9 +10,10 @@ use Rattle.table_files.specs.declared.tables.Tables.{Tables}
 use Rattle.dci_fields.specs.declared.formats.Format.{Format}
 use Rattle.dci_fields.specs.Payloads.{payload_of}
 use Rattle.pdcch_app.specs.BlockImage.{block_image}
-use Rattle.pdcch_app.specs.declared.watch.Watch.{Watch}
+use Rattle.monitor_plan.specs.declared.watch.Watch.{Watch}
 use Rattle.pdcch_app.specs.AllValues.{all_values}
-use Rattle.pdcch_app.specs.Watches.{formats, is_monitored, list_of}
+use Rattle.monitor_plan.specs.Watch.{fits, list_of}
+use Rattle.pdcch_app.specs.Watches.{formats}
 
 -- a format, and a value for each of its rows
 pub record Spelling : Type 0 where
@@ -49,10 +50,10 @@ carries tables grid watch None = false
 carries tables grid watch (Some payload) =
     agrees grid (block_image tables grid.slot watch (masked payload watch.rnti))
 
--- a spelling is of a format that is monitored, it has a payload of the watch's size, and the grid carries it
+-- a spelling is of a format that fits the watch, it has a payload of the watch's size, and the grid carries it
 abbrev pub spells : Tables → GridValue → Watch → Spelling → Bool
 spells tables grid watch s =
-    is_monitored s.format && carries tables grid watch (payload_of (list_of watch s.format) s.format s.values watch.size)
+    fits watch s.format && carries tables grid watch (payload_of (list_of watch s.format) s.format s.values watch.size)
 
 -- what the grid spells at the watch, where it spells something
 unfoldable pub spelled : Tables → GridValue → Watch → Option Spelling

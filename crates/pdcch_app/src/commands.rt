@@ -10,13 +10,13 @@ ghost use Rattle.pdcch_app.specs.Steps.{Work, Ends};
 use crate::answer::Answer;
 use crate::files::{grant_at, grid_at, input_order_at, reliability_at, settings_at};
 use crate::first_grant::FirstGrant;
-use crate::grid_text::grid_text;
 use crate::hearing::hear;
 use crate::report_text::report_text;
 use crate::status::Status;
 use crate::stop::Stop;
-use crate::watch::first_watch;
+use crate::watch::{first_plan, first_watch};
 use crate::written::grid_of_grant;
+use grid_file::write_grid;
 use outside::Shelf;
 use rrc_settings::Cell;
 use slot_grid::Grid;
@@ -35,7 +35,7 @@ fn write_text(
     ensures { Ends result (ended (written cell.now tables.now grant.now)) }
 {
     let grid = grid_of_grant(alloc, tables, cell, grant)?;
-    let text = grid_text(alloc, &grid)?;
+    let text = write_grid(alloc, &grid)?;
     Ok(Answer::new(Status::Done, text, Vec::new(alloc)))
 }
 
@@ -71,9 +71,10 @@ fn search_text(alloc: Global, cell: &Cell, tables: &Tables, grid: &Grid) -> Resu
     requires grid { IsFirstGrid grid.now }
     ensures { Ends result (ended (searched cell.now tables.now grid.now)) }
 {
-    let watch = first_watch(cell);
-    let heard = hear(tables, grid, &watch);
-    let text = report_text(alloc, grid, &watch, &heard)?;
+    let plan = first_plan(alloc, cell)?;
+    let watch = first_watch(&plan);
+    let heard = hear(tables, grid, watch);
+    let text = report_text(alloc, grid, watch, &heard)?;
     Ok(Answer::new(Status::Done, text, Vec::new(alloc)))
 }
 
@@ -95,7 +96,7 @@ pub fn search<S: Shelf>(
     let cell = settings_at(alloc, shelf, settings)?;
     let reliability = reliability_at(alloc, shelf, reliability)?;
     let input_order = input_order_at(alloc, shelf, input_order)?;
-    let points = grid_at(alloc, shelf, grid)?;
+    let points = grid_at(alloc, shelf, &cell, grid)?;
     let tables = Tables {
         reliability,
         input_order,

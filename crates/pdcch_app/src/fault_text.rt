@@ -1,8 +1,8 @@
-//! The lines that say what is wrong with the settings, a table or the grants.
+//! The lines that say what is wrong with the settings, a table, the grants or a grid.
 ghost use Rattle.std.specs.Prelude.{◌≡◌, ◌++◌, IfOk, OnOk};
 ghost use Rattle.std.specs.List.{flat_map};
 ghost use Rattle.std.specs.Fmt.{decimal};
-ghost use Rattle.pdcch_app.specs.FaultText.{reason_text, step_text, further, place_text, settings_line, table_fault_text, table_line, grant_place_text, grants_line};
+ghost use Rattle.pdcch_app.specs.FaultText.{reason_text, step_text, further, place_text, settings_line, table_fault_text, table_line, grant_place_text, grants_line, grid_place_line, grid_number_line};
 
 use crate::decimal_text::push_number;
 use grant_file::{GrantFault, GrantKey, GrantPlace};
@@ -152,5 +152,34 @@ pub fn grants_line(alloc: Global, fault: &GrantFault) -> Result<Vec<u8>, AllocEr
     push_grant_place(alloc, &mut text, &fault.place)?;
     text.extend_from_slice(b": ")?;
     text.extend_from_slice(reason_text(fault.reason).as_bytes())?;
+    Ok(text)
+}
+
+/// The line on bytes that are no grid's text from a place on, without its line feed.
+#[tactic(auto, unfolding(crate::specs::FaultText::grid_place_line))]
+pub fn grid_place_line(alloc: Global, at: usize) -> Result<Vec<u8>, AllocError>
+    ensures { IfOk result (λ text. text.items ≡ grid_place_line at) }
+{
+    let mut text = Vec::from_slice(alloc, b"error: grid: byte ")?;
+    push_byte_place(alloc, &mut text, at)?;
+    Ok(text)
+}
+
+/// The line on a number of a grid that is not the settings', without its line feed.
+#[tactic(auto, unfolding(crate::specs::FaultText::grid_number_line))]
+pub fn grid_number_line(
+    alloc: Global,
+    word: &[u8],
+    grid: u16,
+    settings: u16,
+) -> Result<Vec<u8>, AllocError>
+    ensures { IfOk result (λ text. text.items ≡ grid_number_line word.now grid settings) }
+{
+    let mut text = Vec::from_slice(alloc, b"error: grid: ")?;
+    text.extend_from_slice(word)?;
+    text.push(b' ')?;
+    push_number(alloc, &mut text, grid)?;
+    text.push(b' ')?;
+    push_number(alloc, &mut text, settings)?;
     Ok(text)
 }

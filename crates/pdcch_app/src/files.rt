@@ -1,21 +1,24 @@
 //! Fetches and checks each of the four files.
 ghost use Rattle.std.specs.Prelude.{◌≡◌, ℕ, List, cond, None, Some, IfOk};
+ghost use Rattle.slot_grid.specs.Grid.{IsGrid};
 ghost use Rattle.pdcch_app.specs.FirstCells.{is_first, IsFirst};
-ghost use Rattle.pdcch_app.specs.FirstForms.{built, settings_of, reliability_of, input_order_of, grant_of, grid_of};
+ghost use Rattle.pdcch_app.specs.FirstForms.{built, settings_of, reliability_of, input_order_of, grant_of, grid_fitting, grid_of};
 ghost use Rattle.pdcch_app.specs.FirstGrants.{first_grant_of};
 ghost use Rattle.pdcch_app.specs.FirstGrid.{IsFirstGrid};
 ghost use Rattle.pdcch_app.specs.Outcome.{checked};
 ghost use Rattle.pdcch_app.specs.Granted.{IsInRange};
 ghost use Rattle.pdcch_app.specs.Steps.{Step, IsRead};
 
-use crate::fault_text::{grants_line, settings_line, table_line};
+use crate::fault_text::{
+    grants_line, grid_number_line, grid_place_line, settings_line, table_line,
+};
 use crate::first_cell::is_first;
 use crate::first_grant::{FirstGrant, first_grant_of};
-use crate::first_grid::grid_in;
 use crate::status::Status;
 use crate::stop::{Stop, refusal, refusal_of};
 use crate::take::take;
 use grant_file::{GrantList, GrantsError, read_grants};
+use grid_file::GridError;
 use outside::Shelf;
 use rrc_settings::Cell;
 use settings_json::{SettingsError, read_settings};
@@ -109,14 +112,41 @@ fn read_grant(alloc: Global, name: &str, text: &[u8]) -> Result<FirstGrant, Stop
     }
 }
 
-#[tactic(auto, unfolding(crate::specs::FirstForms::grid_of))]
-fn read_grid(alloc: Global, name: &str, text: &[u8]) -> Result<Grid, Stop>
-    ensures read { IsRead result (checked (grid_of name.now text.now)) }
+/// A grid of the numerology and the blocks of the settings, in frame 0 and slot 0.
+fn fitting_grid(alloc: Global, cell: &Cell, name: &str, grid: Grid) -> Result<Grid, Stop>
+    requires legal { IsGrid grid }
+    requires first { IsFirst cell.now }
+    ensures read { IsRead result (checked (grid_fitting cell.now name.now grid)) }
     ensures first { IfOk result IsFirstGrid }
 {
-    match grid_in(alloc, text)? {
-        Some(grid) => Ok(grid),
-        None => Err(refusal(alloc, Status::NotBuilt, NOT_BUILT, name)),
+    let settings = cell.raw();
+    if grid.mu() != settings.mu {
+        let line = grid_number_line(alloc, b"mu", grid.mu(), settings.mu)?;
+        return Err(refusal_of(alloc, Status::GridRefused, line));
+    }
+    if grid.blocks() != settings.blocks {
+        let line = grid_number_line(alloc, b"blocks", grid.blocks(), settings.blocks)?;
+        return Err(refusal_of(alloc, Status::GridRefused, line));
+    }
+    if grid.frame() != 0 || grid.slot() != 0 {
+        return Err(refusal(alloc, Status::NotBuilt, NOT_BUILT, name));
+    }
+    Ok(grid)
+}
+
+#[tactic(auto, unfolding(crate::specs::FirstForms::grid_of))]
+fn read_grid(alloc: Global, cell: &Cell, name: &str, text: &[u8]) -> Result<Grid, Stop>
+    requires { IsFirst cell.now }
+    ensures read { IsRead result (checked (grid_of cell.now name.now text.now)) }
+    ensures first { IfOk result IsFirstGrid }
+{
+    match grid_file::read_grid(alloc, text) {
+        Ok(grid) => fitting_grid(alloc, cell, name, grid),
+        Err(GridError::NoMemory) => Err(Stop::OutOfMemory),
+        Err(GridError::Fault(fault)) => {
+            let line = grid_place_line(alloc, fault.at)?;
+            Err(refusal_of(alloc, Status::GridRefused, line))
+        }
     }
 }
 
@@ -163,15 +193,21 @@ pub fn input_order_at<S: Shelf>(
 }
 
 /// The grid of a file.
-pub fn grid_at<S: Shelf>(alloc: Global, shelf: &mut S, name: &str) -> Result<Grid, Stop>
-    requires { S.may shelf.old name.now }
+pub fn grid_at<S: Shelf>(
+    alloc: Global,
+    shelf: &mut S,
+    cell: &Cell,
+    name: &str,
+) -> Result<Grid, Stop>
+    requires may { S.may shelf.old name.now }
+    requires cell { IsFirst cell.now }
     ensures first { IfOk result IsFirstGrid }
-    ensures step { Step (grid_of name.now) name.now (S.told shelf.old name.now) (S.faults shelf.old) (S.faults shelf.new) (S.longs shelf.old) (S.longs shelf.new) result }
+    ensures step { Step (grid_of cell.now name.now) name.now (S.told shelf.old name.now) (S.faults shelf.old) (S.faults shelf.new) (S.longs shelf.old) (S.longs shelf.new) result }
     ensures told { (n : List ℕ) → S.told shelf.new n ≡ S.told shelf.old n }
     ensures may { (n : List ℕ) → S.may shelf.old n → S.may shelf.new n }
 {
     let text = take(alloc, shelf, name)?;
-    read_grid(alloc, name, text.as_slice())
+    read_grid(alloc, cell, name, text.as_slice())
 }
 
 /// The grant of a file.

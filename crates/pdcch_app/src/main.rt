@@ -9,8 +9,6 @@ mod fault_text;
 mod files;
 mod first_cell;
 mod first_grant;
-mod first_grid;
-mod grid_text;
 mod heard;
 mod hearing;
 pub mod laws;

@@ -5,8 +5,8 @@ ghost use Rattle.pdcch_app.specs.Report.{slot_line, handset_line, hex_digit, hex
 
 use crate::decimal_text::push_number;
 use crate::heard::Heard;
-use crate::watch::Watch;
 use dci_fields::FieldValue;
+use monitor_plan::Watch;
 use slot_grid::Grid;
 use std::alloc::{AllocError, Global};
 

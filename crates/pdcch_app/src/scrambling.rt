@@ -1,6 +1,6 @@
 //! Scrambling.
 ghost use Rattle.std.specs.Prelude.{◌≡◌, ◌^◌, ◌<◌};
-ghost use Rattle.pdcch_app.specs.Scrambling.{scrambled, scramble_start};
+ghost use Rattle.pdcch_app.specs.Scrambling.{scrambled};
 
 use bits_core::Coded;
 use gold_scrambler::Gold;
@@ -16,13 +16,4 @@ pub fn scramble(bits: &Coded, c_init: u32) -> Coded
         sum.push(bits.get(at) != gold.next_bit());
     }
     sum
-}
-
-/// The start value of the sequence for an RNTI and an identity (3GPP TS 38.211, 7.3.2.3).
-pub fn scramble_start(rnti: u16, id: u16) -> u32
-    ensures value { result ≡ scramble_start rnti id }
-    ensures small { result < 2 ^ 31 }
-{
-    let start = u64::from(rnti) * (1 << 16) + u64::from(id);
-    (start % (1 << 31)) as u32
 }

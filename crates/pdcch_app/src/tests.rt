@@ -7,6 +7,7 @@ use outside::{MemoryShelf, MemorySink, NamedBytes};
 use std::alloc::{AllocError, Global};
 use std::test::Fail;
 
+mod grids;
 mod outcomes;
 mod refusals;
 mod reports;

@@ -1,70 +1,33 @@
-//! Where a handset listens: one candidate of a search space set.
-ghost use Rattle.std.specs.Prelude.{◌≡◌};
-ghost use Rattle.coreset_map.specs.RegOrder.{AreWithin};
+//! The one watch of a first cell: that of its handset's plan.
+ghost use Rattle.std.specs.Prelude.{◌≡◌, ◌<◌, IfOk, length};
+ghost use Rattle.monitor_plan.specs.Watch.{IsInside, IsSound, watch_at};
 ghost use Rattle.pdcch_app.specs.FirstCells.{IsFirst};
-ghost use Rattle.pdcch_app.specs.Watches.{IsWatch};
 ghost use Rattle.pdcch_app.specs.Written.{first_watch};
 
-use crate::scrambling::scramble_start;
-use arrayvec::ArrayVec;
-use coreset_map::{Map, Reg};
-use dci_fields::{FieldList, Format, Widths, fitted, raw_list};
+use bits_core::NoMemory;
+use monitor_plan::{Plan, PlanFault, Watch};
 use rrc_settings::Cell;
-use size_alignment::sizes;
+use std::alloc::Global;
 
-/// One candidate of a common search space set in a slot, as a handset monitors it and a cell writes it.
-#[derive(Debug, Drop)]
-pub struct Watch {
-    /// The number of its set.
-    pub set: u16,
-    /// Its first symbol of the slot.
-    pub symbol: u8,
-    /// Its aggregation level: how many CCEs it has.
-    pub level: u8,
-    /// Its number among the candidates of this level.
-    pub candidate: u8,
-    /// How many bits a payload has.
-    pub size: u16,
-    /// The fields of format 0_0.
-    pub up: FieldList,
-    /// The fields of format 1_0.
-    pub down: FieldList,
-    /// Its REGs by symbol, then by block, with symbols counted from the first.
-    pub regs: ArrayVec<Reg, 96>,
-    /// The scrambling identity of its reference signal.
-    pub dmrs_id: u16,
-    /// The start value of its scrambling sequence, below 2^31.
-    pub scramble: u32,
-    /// The RNTI that masks its parity.
-    pub rnti: u16,
+/// The plan of the handset of a first cell in slot 0 of frame 0, which has one watch.
+pub fn first_plan(alloc: Global, cell: &Cell) -> Result<Plan, NoMemory>
+    requires { IsFirst cell.now }
+    ensures one { IfOk result (λ plan. length plan ≡ 1) }
+    ensures watch { IfOk result (λ plan. watch_at plan 0 ≡ first_watch cell.now) }
+    ensures inside { IfOk result (λ plan. IsInside 51 (watch_at plan 0)) }
+{
+    match Plan::of(alloc, cell, 0, 0, 0) {
+        Ok(plan) => Ok(plan),
+        Err(PlanFault::NoMemory) => Err(NoMemory),
+        Err(PlanFault::CommonOver { .. }) => unreachable!(),
+    }
 }
 
-/// The one watch of a first cell: the candidate of eight CCEs in symbol 0.
-pub fn first_watch(cell: &Cell) -> Watch
-    requires { IsFirst cell.now }
-    ensures watch { result ≡ first_watch cell.now }
-    ensures keeps { IsWatch result }
-    ensures within { AreWithin 1 48 result.regs.items }
-    ensures symbol { result.symbol ≡ 0 }
+/// The first watch of a plan that has one.
+pub fn first_watch(plan: &Plan) -> &Watch
+    requires { 0 < length plan.now }
+    ensures watch { result.now ≡ watch_at plan.now 0 }
+    ensures sound { IsSound result.now }
 {
-    let size = match sizes(cell, 0).common {
-        Some(size) => size,
-        None => unreachable!(),
-    };
-    let up = raw_list(cell, 0, Format::F00, Widths::Common);
-    let down = raw_list(cell, 0, Format::F10, Widths::Common);
-    let raw = cell.raw();
-    Watch {
-        set: 1,
-        symbol: 0,
-        level: 8,
-        candidate: 0,
-        size,
-        up: fitted(&up, usize::from(size)),
-        down: fitted(&down, usize::from(size)),
-        regs: Map::of(cell, 0, 0).regs_of_candidate(0, 8),
-        dmrs_id: raw.cell,
-        scramble: scramble_start(0, raw.cell),
-        rnti: raw.handsets.as_slice()[0].rnti,
-    }
+    &plan.watches()[0]
 }

@@ -85,8 +85,8 @@ const WORDS: [Case; 17] = [
         NEVER,
         "",
         "",
-        Status::NotBuilt,
-        "error: not built: g\n",
+        Status::GridRefused,
+        "error: grid: byte 0\n",
     ),
     (
         "write s r x g",

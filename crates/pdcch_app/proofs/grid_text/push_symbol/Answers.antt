@@ -1,9 +1,0 @@
-use Rattle.slot_grid.specs.Grid.{point_at}
-use Rattle.pdcch_app.specs.GridText.{point_byte}
-use Rattle.pdcch_app.proofs.GridTexts.{mapped_more}
-use Rattle.pdcch_app.proofs.grid_text.push_symbol.Goals as goal
-
-pub loop-subcarrier-preserved : goal.loop-subcarrier-preserved
-loop-subcarrier-preserved c =
-    let e = mapped_more (λ k. point_byte (point_at c.args.grid.now c.args.symbol k)) c.args.text.now.items c.loop-subcarrier.subcarrier in
-    cc (c.in_ok-push.ensures.items)
