@@ -9,6 +9,3 @@ pub mod laws;
 pub use bits::bits_for;
 pub use groups::group_count;
 pub use indication::{riv, span};
-
-#[cfg(test)]
-mod tests;

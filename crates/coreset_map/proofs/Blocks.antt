@@ -4,7 +4,8 @@ use Rattle.std.proofs.lemmas.Bool.{cases_lt, cases_order}
 use Rattle.std.proofs.lemmas.List.{get_or_append_left, get_or-append_right}
 use Rattle.std.proofs.lemmas.List.FromFn.{length-range_with_len, get_or-range_with_len}
 use Rattle.std.specs.List.{range_with_len, flat_map}
-use Rattle.coreset_map.specs.ControlResources.{Resources, group_block, blocks_of, AreBelow, AreResources}
+use Rattle.rrc_settings.specs.ControlGroups.{group_block}
+use Rattle.coreset_map.specs.ControlResources.{Resources, blocks_of, AreBelow, AreResources}
 use Rattle.coreset_map.proofs.Members.{IsIn, in-flat_map, in-range, in-at, at-in}
 use Rattle.coreset_map.proofs.Rising.{Rising, rising-flat_map, rising-range, rising-from, rising-at}
 

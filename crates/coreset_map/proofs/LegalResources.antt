@@ -11,9 +11,10 @@ use Rattle.rrc_settings.specs.declared.settings.Interleave.{Interleave}
 use Rattle.rrc_settings.specs.declared.settings.Bwp.{Bwp}
 use Rattle.rrc_settings.specs.Name.{is_from_to}
 use Rattle.rrc_settings.specs.Table.{coreset_ranges}
-use Rattle.rrc_settings.specs.Conflicts.{has_bit, end_of, group_count, group_end, reaches_outside, coreset_conflicts}
+use Rattle.rrc_settings.specs.Conflicts.{has_bit, end_of, group_count, reaches_outside, coreset_conflicts}
 use Rattle.rrc_settings.specs.Legal.{IsLegal}
-use Rattle.coreset_map.specs.ControlResources.{group_block, GoesWith, AreBelow, AreResources}
+use Rattle.rrc_settings.specs.ControlGroups.{group_block, cces_in}
+use Rattle.coreset_map.specs.ControlResources.{GoesWith, AreBelow, AreResources}
 use Rattle.rrc_settings.specs.HandsetsOfCell.{no_handset, handset_at}
 use Rattle.coreset_map.specs.ResourcesOfCell.{no_coreset, coreset_at, groups_of, interleaver_in, resources_in, resources_of}
 use Rattle.coreset_map.proofs.Members.{IsIn, in-filter, in-range, at-in, range-in}
@@ -67,16 +68,16 @@ length-groups groups = lengths groups 64 refl
 
 -- none of them reaches outside
 abbrev outside : Bwp → ℕ → ℕ → Bool
-outside bwp groups g = has_bit groups g && nat_lt (end_of bwp) (group_end bwp g)
+outside bwp groups g = has_bit groups g && nat_lt (end_of bwp) (group_block bwp.start g + 6)
 
 reaches_all : (bwp : Bwp) (groups n : ℕ) → n ≡ 64 → list_any (outside bwp groups) (range_with_len 0 n) ≡ reaches_outside bwp groups
 unfolding reaches_outside
 reaches_all bwp groups n e = ap (λ k. list_any (outside bwp groups) (range_with_len 0 k)) e
 
-ends_inside : (bwp : Bwp) (groups n g : ℕ) → n ≡ 64 → reaches_outside bwp groups ≡ false → g < n → has_bit groups g ≡ true → group_end bwp g ≤ end_of bwp
+ends_inside : (bwp : Bwp) (groups n g : ℕ) → n ≡ 64 → reaches_outside bwp groups ≡ false → g < n → has_bit groups g ≡ true → group_block bwp.start g + 6 ≤ end_of bwp
 ends_inside bwp groups n g e h l b =
     let f = none_passes (outside bwp groups) g (range_with_len 0 n) (reaches_all bwp groups n e ∙ h) (range-in g 0 n (omega arith) (omega (arith, l))) in
-    not_below (nat_lt (end_of bwp) (group_end bwp g)) (end_of bwp) (group_end bwp g) refl (second_fails (has_bit groups g) (nat_lt (end_of bwp) (group_end bwp g)) f b)
+    not_below (nat_lt (end_of bwp) (group_block bwp.start g + 6)) (end_of bwp) (group_block bwp.start g + 6) refl (second_fails (has_bit groups g) (nat_lt (end_of bwp) (group_block bwp.start g + 6)) f b)
 
 groups_inside : (bwp : Bwp) (groups n : ℕ) → n ≡ 64 → reaches_outside bwp groups ≡ false → All (λ g. group_block bwp.start g + 6 ≤ end_of bwp) (groups_below groups n)
 groups_inside bwp groups n e h k d l =
@@ -97,12 +98,12 @@ between low high n h = let (a, b) = both_pass (nat_le low n) (nat_le n high) h i
 
 pub goes-with : (cell : ℕ) (c : Coreset) (o : Option Interleave) (downlink : Bwp) → c.interleave ≡ o
     → Passes (λ earlier. coreset_ranges) c → Passes (coreset_conflicts downlink) c
-    → GoesWith (6 * (length (groups_of c.groups) * c.duration)) (option_map (interleaver_in cell) o)
+    → GoesWith (6 * cces_in (length (groups_of c.groups)) c.duration) (option_map (interleaver_in cell) o)
 goes-with cell c None downlink e p q = tt
 goes-with cell c (Some i) downlink e p q =
     let (b, r) = legal-interleave_ranges p.at c i p.none e in
     let f = legal-rows downlink q.earlier q.at c i q.none e in
-    let n = ap (λ k. 6 * (k * c.duration) % (i.bundle * i.rows)) (length-groups c.groups) in
+    let n = ap (λ k. 6 * cces_in k c.duration % (i.bundle * i.rows)) (length-groups c.groups) in
     record { bundle = b; rows = r; filled = n ∙ f }
 
 pub are-resources : (cell : ℕ) (downlink : Bwp) (c : Coreset) → end_of downlink ≤ 275

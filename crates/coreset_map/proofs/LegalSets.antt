@@ -33,7 +33,7 @@ test_cases : (at : Steps) (reason : Reason) (test : Bool) → cond test None (So
 test_cases at reason true h = refl
 test_cases at reason false h = absurd (cc)
 
-pub unless-none : (at : Steps) (reason : Reason) (test : Bool) → unless at reason test ≡ None → test ≡ true
+pub unless-none : (at : Steps) (reason : Reason) (test : Bool) → unless (fault_at at reason) test ≡ None → test ≡ true
 unfolding unless
 unless-none at reason test h = test_cases at reason test h
 

@@ -2,6 +2,7 @@
 use Rattle.std.specs.Prelude.{◌≡◌, ℕ, ◌+◌, ◌*◌, ◌/◌, ◌%◌, ◌<◌, ◌≤◌, ⊤, true, List, [], ◌∷◌, Option, Some, None, map, length, slice_index, All, AllPairs}
 use Rattle.std.specs.List.{range_with_len, flat_map}
 use Rattle.rrc_settings.specs.Table.{is_one_of}
+use Rattle.rrc_settings.specs.ControlGroups.{group_block, cces_in}
 use Rattle.coreset_map.specs.declared.interleaver.Interleaver.{Interleaver}
 use Rattle.coreset_map.specs.declared.places.Reg.{Reg}
 
@@ -13,17 +14,13 @@ pub record Resources : Type 0 where
   pub duration : ℕ
   pub interleaver : Option Interleaver
 
--- the first block of a group: groups are counted from the first multiple of six blocks in the bandwidth part
-abbrev pub group_block : ℕ → ℕ → ℕ
-group_block start group = 6 * ((start + 5) / 6) + 6 * group
-
 -- the blocks of the set, rising
 unfoldable pub blocks_of : Resources → List ℕ
 blocks_of resources = flat_map (λ group. range_with_len (group_block resources.start group) 6) resources.groups
 
 -- how many CCEs the set has
 abbrev pub cce_count : Resources → ℕ
-cce_count resources = length resources.groups * resources.duration
+cce_count resources = cces_in (length resources.groups) resources.duration
 
 -- how many REGs the set has
 abbrev pub reg_count : Resources → ℕ

@@ -10,6 +10,3 @@ mod places;
 pub use data::data_place;
 pub use map::Map;
 pub use places::{Reg, Spot};
-
-#[cfg(test)]
-mod tests;

@@ -3,7 +3,5 @@
 
 mod mask;
 mod register;
-#[cfg(test)]
-mod tests;
 
 pub use mask::{attach, strip};

@@ -28,6 +28,3 @@ pub use sizes::Sizes;
 pub use unpacking::unpack;
 pub use values::{FieldValue, Values};
 pub use widths::fdra_width;
-
-#[cfg(test)]
-mod tests;

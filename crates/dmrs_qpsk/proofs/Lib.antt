@@ -5,5 +5,4 @@ pub mod Takes
 pub mod ReferencePairs
 pub mod ReferenceRows
 pub mod PutAndTaken
-mod RegsInARow
 pub mod DataOrder

@@ -9,6 +9,3 @@ mod taking;
 pub use placing::put_bits;
 pub use reference::reference_point;
 pub use taking::{BadPlace, Flaw, take_bits};
-
-#[cfg(test)]
-mod tests;

@@ -5,6 +5,3 @@ pub mod laws;
 mod sequence;
 
 pub use sequence::Gold;
-
-#[cfg(test)]
-mod tests;

@@ -1,10 +1,12 @@
--- Checks of a list of grants in order, and the first that fails.
-use Rattle.std.specs.Prelude.{ℕ, ◌+◌, Bool, List, [], ◌∷◌, cond, Option, Some, None, Result, Ok, Err}
+-- The places and the faults of a list of grants, and how it names what stands in it.
+use Rattle.std.specs.Prelude.{ℕ, Option, Some}
 use Rattle.rrc_settings.specs.declared.place.Reason.{Reason}
+use Rattle.settings_json.specs.Kinds.{Naming}
 use Rattle.grant_file.specs.declared.place.GrantKey.{GrantKey}
 use Rattle.grant_file.specs.declared.place.GrantKey.TheVariants as keys
 use Rattle.grant_file.specs.declared.place.GrantPlace.{GrantPlace}
 use Rattle.grant_file.specs.declared.place.GrantFault.{GrantFault}
+use Rattle.grant_file.specs.Keys.{word_of}
 
 -- what a check finds: a fault or none
 abbrev pub Finding : Type 0
@@ -22,26 +24,6 @@ whole_at grant = place grant keys.Whole
 abbrev pub fault_at : GrantPlace → Reason → GrantFault
 fault_at at reason = record { place = at; reason = reason }
 
--- the fault unless the test holds
-unfoldable pub unless : GrantPlace → Reason → Bool → Finding
-unless at reason test = cond test None (Some (fault_at at reason))
-
--- the first fault that checks in order find
-abbrev pub first_of : List Finding → Finding
-first_of [] = None
-first_of (None ∷ rest) = first_of rest
-first_of (Some fault ∷ rest) = Some fault
-
--- the first fault of a list's elements, which are counted from n on
-abbrev pub first_from : {A : Type 0} → (ℕ → A → Finding) → ℕ → List A → Finding
-first_from judge n [] = None
-first_from judge n (x ∷ later) = first_of (judge n x ∷ first_from judge (n + 1) later ∷ [])
-
--- the first fault of a list's elements, which are counted from 0 on
-abbrev pub each : {A : Type 0} → (ℕ → A → Finding) → List A → Finding
-each judge xs = first_from judge 0 xs
-
--- what a function that answers a fault has found
-abbrev pub found_by : {T : Type 0} → Result T GrantFault → Finding
-found_by (Ok x) = None
-found_by (Err fault) = Some fault
+-- the words of the keys, and the places; the elements of the one list are its grants, by their numbers
+abbrev pub names : Naming GrantKey GrantPlace GrantFault
+names = record { word = word_of; below = λ at key. place at.grant key; element = λ at n. whole_at (Some n); fault = fault_at }

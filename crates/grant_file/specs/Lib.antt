@@ -5,7 +5,6 @@ pub mod FieldWord
 pub mod Fields
 pub mod First
 pub mod Keys
-pub mod Kinds
 pub mod Lists
 pub mod Reads
 pub mod Shapes

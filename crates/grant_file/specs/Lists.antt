@@ -7,7 +7,8 @@ use Rattle.dci_fields.specs.declared.fault.Given.{Given}
 use Rattle.grant_file.specs.declared.grants.Grant.{Grant}
 use Rattle.grant_file.specs.declared.grants.GrantList.{GrantList}
 use Rattle.grant_file.specs.FieldNames.{field_named}
-use Rattle.grant_file.specs.Shapes.{is_level, slots_of_frame}
+use Rattle.rrc_settings.specs.AggregationLevels.{is_level}
+use Rattle.grant_file.specs.Shapes.{slots_of_frame}
 
 -- words in ascending order of their bytes, each once
 abbrev pub IsAscending : List (List ℕ) → Type 0

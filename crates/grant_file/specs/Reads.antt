@@ -1,17 +1,11 @@
--- What a reader answers: the first fault of a judgement, or a value where there is none.
+-- What a reader answers that may want for memory: the first fault of a judgement, or a value where there is none.
 use Rattle.std.specs.Prelude.{◌≡◌, List, None, Some, Result, Ok, Err, Vec}
 use Rattle.std.specs.declared.alloc.Global.{Global}
 use Rattle.grant_file.specs.declared.error.GrantsError.{GrantsError}
 use Rattle.grant_file.specs.declared.error.GrantsError.TheVariants.{Fault, NoMemory}
-use Rattle.grant_file.specs.declared.place.GrantFault.{GrantFault}
 use Rattle.grant_file.specs.Faults.{Finding}
 
--- the fault that is found, or the value where none is
-abbrev pub Reads : {T : Type 0} → Finding → T → Result T GrantFault → Type 0
-Reads finding value (Ok x) = (finding ≡ None) × (x ≡ value)
-Reads finding value (Err fault) = finding ≡ Some fault
-
--- the same, where memory may be wanting instead
+-- the fault that is found, or the value where none is; memory may be wanting instead
 abbrev pub Gives : {T : Type 0} → Finding → T → Result T GrantsError → Type 0
 Gives finding value (Ok x) = (finding ≡ None) × (x ≡ value)
 Gives finding value (Err (Fault fault)) = finding ≡ Some fault

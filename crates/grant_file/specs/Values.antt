@@ -3,11 +3,12 @@ use Rattle.std.specs.Prelude.{ℕ, List, map, cond, codes, bytes_eq}
 use Rattle.dci_fields.specs.declared.formats.Format.{Format}
 use Rattle.dci_fields.specs.declared.formats.Format.TheVariants as formats
 use Rattle.serde_json.specs.Data.{Data}
+use Rattle.settings_json.specs.Kinds.{number_in, optional_number_in, text_in, elements_in, members_in}
 use Rattle.grant_file.specs.declared.grants.Grant.{Grant}
 use Rattle.grant_file.specs.declared.grants.GrantList.{GrantList}
 use Rattle.grant_file.specs.declared.place.GrantKey.TheVariants as keys
+use Rattle.grant_file.specs.Faults.{names}
 use Rattle.grant_file.specs.Fields.{given_in, words_in}
-use Rattle.grant_file.specs.Kinds.{number_in, optional_number_in, text_in, elements_in, members_in}
 
 -- the format that a word names
 abbrev pub format_of : List ℕ → Format
@@ -20,20 +21,20 @@ format_of word =
 -- a grant
 unfoldable pub grant_value : Data → Grant
 grant_value d = record {
-  handset = text_in keys.Handset d;
-  set = number_in keys.Set d;
-  level = number_in keys.Level d;
-  candidate = optional_number_in keys.Candidate d;
-  symbol = optional_number_in keys.Symbol d;
-  format = format_of (text_in keys.Format d);
-  given = given_in (members_in keys.Fields d);
-  words = words_in (members_in keys.Fields d);
+  handset = text_in names keys.Handset d;
+  set = number_in names keys.Set d;
+  level = number_in names keys.Level d;
+  candidate = optional_number_in names keys.Candidate d;
+  symbol = optional_number_in names keys.Symbol d;
+  format = format_of (text_in names keys.Format d);
+  given = given_in (members_in names keys.Fields d);
+  words = words_in (members_in names keys.Fields d);
 }
 
 -- the grants of a slot
 unfoldable pub list_value : Data → GrantList
 list_value d = record {
-  frame = number_in keys.Frame d;
-  slot = number_in keys.Slot d;
-  grants = map grant_value (elements_in keys.Grants d);
+  frame = number_in names keys.Frame d;
+  slot = number_in names keys.Slot d;
+  grants = map grant_value (elements_in names keys.Grants d);
 }

@@ -1,13 +1,14 @@
 //! The values of fields that a grant gives.
 ghost use Rattle.std.specs.Prelude.{◌≡◌, IfOk, OnOk};
 ghost use Rattle.serde_json.specs.View.{view, members_view};
-ghost use Rattle.settings_json.specs.Kinds.{members_of, number_of};
+ghost use Rattle.settings_json.specs.Kinds.{entry, may, members_in, members_of, number_of};
+ghost use Rattle.settings_json.specs.Reads.{Reads};
 ghost use Rattle.grant_file.specs.declared.place.GrantKey.TheVariants as keys;
+ghost use Rattle.grant_file.specs.Faults.{names, whole_at};
 ghost use Rattle.grant_file.specs.FieldNames.{field_named};
 ghost use Rattle.grant_file.specs.Fields.{given_in, judge_fields, judge_members, judge_value, judge_word, words_in};
-ghost use Rattle.grant_file.specs.Kinds.{entry, may, members_in};
 ghost use Rattle.grant_file.specs.Lists.{IsAscending, IsReadFields};
-ghost use Rattle.grant_file.specs.Reads.{Gives, Reads};
+ghost use Rattle.grant_file.specs.Reads.{Gives};
 
 use crate::leaves::{place, value_at};
 use crate::place::fault_at;
@@ -34,7 +35,7 @@ fn field_named(word: &[u8]) -> Option<FieldName>
 }
 
 /// The field word with these bytes.
-#[tactic(auto, unfolding(crate::specs::Faults::unless, crate::specs::Fields::judge_word))]
+#[tactic(auto, unfolding(rrc_settings::specs::Faults::unless, crate::specs::Fields::judge_word))]
 fn field_word(at: &GrantPlace, word: &[u8]) -> Result<FieldWord, GrantFault>
     ensures { Reads (judge_word at.now word.now) word.now result }
 {
@@ -45,7 +46,7 @@ fn field_word(at: &GrantPlace, word: &[u8]) -> Result<FieldWord, GrantFault>
 }
 
 /// The value of a field.
-#[tactic(auto, unfolding(crate::specs::Faults::unless, crate::specs::Fields::judge_value))]
+#[tactic(auto, unfolding(rrc_settings::specs::Faults::unless, crate::specs::Fields::judge_value))]
 fn field_value(at: &GrantPlace, value: &Value) -> Result<u64, GrantFault>
     ensures { Reads (judge_value at.now (view value.now)) (number_of (view value.now)) result }
 {
@@ -83,7 +84,7 @@ fn fields_in(
 }
 
 /// The fields of an object that stands at this place.
-#[tactic(auto, using(crate::proofs::Lists::read_fields), unfolding(crate::specs::Faults::unless, crate::specs::Fields::judge_fields))]
+#[tactic(auto, using(crate::proofs::Lists::read_fields), unfolding(rrc_settings::specs::Faults::unless, crate::specs::Fields::judge_fields))]
 fn fields_of(alloc: Global, at: &GrantPlace, value: &Value) -> Result<Fields, GrantsError>
     ensures read { Gives (judge_fields at.now (view value.now))
         (record { given = given_in (members_of (view value.now)); words = words_in (members_of (view value.now)) }) result }
@@ -96,14 +97,14 @@ fn fields_of(alloc: Global, at: &GrantPlace, value: &Value) -> Result<Fields, Gr
 }
 
 /// The fields at their key; none where the key is absent.
-#[tactic(auto, using(crate::proofs::Lists::read_no_fields), unfolding(crate::specs::Faults::unless, crate::specs::Kinds::entry))]
+#[tactic(auto, using(crate::proofs::Lists::read_no_fields), unfolding(rrc_settings::specs::Faults::unless, settings_json::specs::Kinds::entry))]
 pub(crate) fn fields_at(
     alloc: Global,
     grant: Option<u16>,
     value: &Value,
 ) -> Result<Fields, GrantsError>
-    ensures read { Gives (entry grant (view value.now) (may keys.Fields judge_fields))
-        (record { given = given_in (members_in keys.Fields (view value.now)); words = words_in (members_in keys.Fields (view value.now)) }) result }
+    ensures read { Gives (entry names (whole_at grant) (view value.now) (may keys.Fields judge_fields))
+        (record { given = given_in (members_in names keys.Fields (view value.now)); words = words_in (members_in names keys.Fields (view value.now)) }) result }
     ensures kept { IfOk result (λ fields. IsReadFields fields.given fields.words) }
 {
     match value_at(value, GrantKey::Fields) {

@@ -1,17 +1,17 @@
 //! Numbers at the keys of an object.
 ghost use Rattle.std.specs.Prelude.{◌≡◌, ◌<◌, None, Some, IfErr, IfOk, option_map, true};
+ghost use Rattle.rrc_settings.specs.AggregationLevels.{is_level};
 ghost use Rattle.rrc_settings.specs.declared.place.Reason.TheVariants as reasons;
 ghost use Rattle.serde_json.specs.View.{view};
-ghost use Rattle.settings_json.specs.Kinds.{number_of};
+ghost use Rattle.settings_json.specs.Kinds.{entry, judge_number, judge_whole, may, must, number_in, number_of, optional_number_in, value_at};
+ghost use Rattle.settings_json.specs.Reads.{Reads};
 ghost use Rattle.grant_file.specs.declared.place.GrantKey.TheVariants as keys;
-ghost use Rattle.grant_file.specs.Faults.{fault_at, place};
-ghost use Rattle.grant_file.specs.Kinds.{entry, judge_number, judge_whole, may, must, number_in, optional_number_in, value_at};
-ghost use Rattle.grant_file.specs.Reads.{Reads};
-ghost use Rattle.grant_file.specs.Shapes.{is_below, is_level};
+ghost use Rattle.grant_file.specs.Faults.{fault_at, names, place, whole_at};
+ghost use Rattle.grant_file.specs.Shapes.{is_below};
 
 use crate::place::fault_at;
 use crate::{GrantFault, GrantKey, GrantPlace};
-use rrc_settings::Reason;
+use rrc_settings::{Reason, is_level};
 use serde_json::Value;
 
 /// The place of a key of the list, or of one of its grants.
@@ -23,7 +23,7 @@ pub(crate) fn place(grant: Option<u16>, key: GrantKey) -> GrantPlace
 
 /// The value of a key, None exactly where the key is absent.
 pub(crate) fn value_at(value: &Value, key: GrantKey) -> Option<&Value>
-    ensures { option_map (λ v. view v.now) result ≡ value_at key (view value.now) }
+    ensures { option_map (λ v. view v.now) result ≡ value_at names key (view value.now) }
 {
     value.get(key.text())
 }
@@ -34,8 +34,8 @@ pub(crate) fn required<'a>(
     value: &'a Value,
     key: GrantKey,
 ) -> Result<&'a Value, GrantFault>
-    ensures found { IfOk result (λ v. value_at key (view value.now) ≡ Some (view v.now)) }
-    ensures missing { IfErr result (λ fault. (value_at key (view value.now) ≡ None) × (fault ≡ fault_at (place grant key) reasons.Missing)) }
+    ensures found { IfOk result (λ v. value_at names key (view value.now) ≡ Some (view v.now)) }
+    ensures missing { IfErr result (λ fault. (value_at names key (view value.now) ≡ None) × (fault ≡ fault_at (place grant key) reasons.Missing)) }
 {
     match value_at(value, key) {
         None => Err(fault_at(&place(grant, key), Reason::Missing)),
@@ -44,9 +44,9 @@ pub(crate) fn required<'a>(
 }
 
 /// The whole number that stands at this place.
-#[tactic(auto, unfolding(crate::specs::Faults::unless, crate::specs::Kinds::judge_whole))]
+#[tactic(auto, unfolding(rrc_settings::specs::Faults::unless, settings_json::specs::Kinds::judge_whole))]
 fn whole(at: &GrantPlace, value: &Value) -> Result<u16, GrantFault>
-    ensures { Reads (judge_whole at.now (view value.now)) (number_of (view value.now)) result }
+    ensures { Reads (judge_whole names at.now (view value.now)) (number_of (view value.now)) result }
 {
     let Some(number) = value.as_u64() else {
         return Err(fault_at(at, Reason::WrongKind));
@@ -58,22 +58,22 @@ fn whole(at: &GrantPlace, value: &Value) -> Result<u16, GrantFault>
 }
 
 /// The number at a key.
-#[tactic(auto, unfolding(crate::specs::Faults::unless, crate::specs::Kinds::entry))]
+#[tactic(auto, unfolding(rrc_settings::specs::Faults::unless, settings_json::specs::Kinds::entry))]
 pub(crate) fn number_at(grant: Option<u16>, value: &Value, key: GrantKey) -> Result<u16, GrantFault>
-    ensures { Reads (entry grant (view value.now) (must key judge_whole)) (number_in key (view value.now)) result }
+    ensures { Reads (entry names (whole_at grant) (view value.now) (must key (judge_whole names))) (number_in names key (view value.now)) result }
 {
     let found = required(grant, value, key)?;
     whole(&place(grant, key), found)
 }
 
 /// The number at a key, where the key is there.
-#[tactic(auto, unfolding(crate::specs::Faults::unless, crate::specs::Kinds::entry))]
+#[tactic(auto, unfolding(rrc_settings::specs::Faults::unless, settings_json::specs::Kinds::entry))]
 pub(crate) fn optional_number_at(
     grant: Option<u16>,
     value: &Value,
     key: GrantKey,
 ) -> Result<Option<u16>, GrantFault>
-    ensures { Reads (entry grant (view value.now) (may key judge_whole)) (optional_number_in key (view value.now)) result }
+    ensures { Reads (entry names (whole_at grant) (view value.now) (may key (judge_whole names))) (optional_number_in names key (view value.now)) result }
 {
     match value_at(value, key) {
         None => Ok(None),
@@ -82,9 +82,9 @@ pub(crate) fn optional_number_at(
 }
 
 /// The number at a key of the list, which must be below a bound.
-#[tactic(auto, unfolding(crate::specs::Faults::unless, crate::specs::Kinds::entry, crate::specs::Kinds::judge_number))]
+#[tactic(auto, unfolding(rrc_settings::specs::Faults::unless, settings_json::specs::Kinds::entry, settings_json::specs::Kinds::judge_number))]
 pub(crate) fn number_below_at(value: &Value, key: GrantKey, bound: u16) -> Result<u16, GrantFault>
-    ensures read { Reads (entry None (view value.now) (must key (judge_number (is_below bound)))) (number_in key (view value.now)) result }
+    ensures read { Reads (entry names (whole_at None) (view value.now) (must key (judge_number names (is_below bound)))) (number_in names key (view value.now)) result }
     ensures below { IfOk result (λ number. number < bound) }
 {
     let found = required(None, value, key)?;
@@ -97,17 +97,10 @@ pub(crate) fn number_below_at(value: &Value, key: GrantKey, bound: u16) -> Resul
     }
 }
 
-/// Whether a number is an aggregation level.
-fn is_level(number: u16) -> bool
-    ensures { result ≡ is_level number }
-{
-    number == 1 || number == 2 || number == 4 || number == 8 || number == 16
-}
-
 /// The aggregation level, at its key.
-#[tactic(auto, unfolding(crate::specs::Faults::unless, crate::specs::Kinds::entry, crate::specs::Kinds::judge_number))]
+#[tactic(auto, unfolding(rrc_settings::specs::Faults::unless, settings_json::specs::Kinds::entry, settings_json::specs::Kinds::judge_number))]
 pub(crate) fn level_at(grant: Option<u16>, value: &Value) -> Result<u16, GrantFault>
-    ensures read { Reads (entry grant (view value.now) (must keys.Level (judge_number is_level))) (number_in keys.Level (view value.now)) result }
+    ensures read { Reads (entry names (whole_at grant) (view value.now) (must keys.Level (judge_number names is_level))) (number_in names keys.Level (view value.now)) result }
     ensures level { IfOk result (λ number. is_level number ≡ true) }
 {
     let found = required(grant, value, GrantKey::Level)?;

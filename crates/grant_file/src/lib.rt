@@ -10,8 +10,6 @@ mod objects;
 mod place;
 mod reading;
 mod same;
-#[cfg(test)]
-mod tests;
 mod texts;
 mod word;
 

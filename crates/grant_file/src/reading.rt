@@ -3,17 +3,16 @@ ghost use Rattle.std.specs.Prelude.{◌≡◌, ◌≤◌, ◌⊎◌, All, None, 
 ghost use Rattle.rrc_settings.specs.declared.place.Reason.TheVariants as reasons;
 ghost use Rattle.serde_json.specs.Data.{Data};
 ghost use Rattle.serde_json.specs.View.{view};
-ghost use Rattle.settings_json.specs.First.{IsJson, IsNoJson};
-ghost use Rattle.settings_json.specs.Kinds.{elements_of};
+ghost use Rattle.settings_json.specs.Kinds.{elements_in, elements_of, entry, is_list, judge_each, judge_list as judge_list_of, must};
+ghost use Rattle.settings_json.specs.Texts.{IsJson, IsNoJson};
 ghost use Rattle.grant_file.specs.declared.error.GrantsError.TheVariants.{Fault, NoMemory};
 ghost use Rattle.grant_file.specs.declared.place.GrantKey.TheVariants as keys;
 ghost use Rattle.grant_file.specs.declared.place.GrantPlace.{GrantPlace};
-ghost use Rattle.grant_file.specs.Faults.{each, fault_at, whole_at};
+ghost use Rattle.grant_file.specs.Faults.{fault_at, names, whole_at};
 ghost use Rattle.grant_file.specs.First.{first_fault_in, grants_in};
-ghost use Rattle.grant_file.specs.Kinds.{elements_in, entry, must};
 ghost use Rattle.grant_file.specs.Lists.{IsReadGrant, IsReadList};
 ghost use Rattle.grant_file.specs.Reads.{Gives, GivesList};
-ghost use Rattle.grant_file.specs.Shapes.{is_list, judge_grant, judge_grants, judge_list};
+ghost use Rattle.grant_file.specs.Shapes.{judge_grant, judge_list};
 ghost use Rattle.grant_file.specs.Values.{grant_value, list_value};
 
 use crate::fields::{Fields, fields_at};
@@ -43,7 +42,7 @@ const LIST_KEYS: [GrantKey; 3] = [GrantKey::Frame, GrantKey::Slot, GrantKey::Gra
 /// The grant with this number.
 #[tactic(auto, unfolding(crate::specs::Shapes::judge_grant, crate::specs::Values::grant_value))]
 fn grant_of(alloc: Global, number: u16, value: &Value) -> Result<Grant, GrantsError>
-    ensures read { Gives (judge_grant number (view value.now)) (grant_value (view value.now)) result }
+    ensures read { Gives (judge_grant (whole_at (Some number)) (view value.now)) (grant_value (view value.now)) result }
     ensures kept { IfOk result IsReadGrant }
 {
     let grant = Some(number);
@@ -68,12 +67,12 @@ fn grant_of(alloc: Global, number: u16, value: &Value) -> Result<Grant, GrantsEr
 }
 
 /// The elements of the list that stands at this place, of which there may be 4,096.
-#[tactic(auto, using(settings_json::proofs::Elements::list_of_items_view, settings_json::proofs::Elements::length_of_items_view), unfolding(crate::specs::Faults::unless, crate::specs::Shapes::is_list))]
+#[tactic(auto, using(settings_json::proofs::Elements::list_of_items_view, settings_json::proofs::Elements::length_of_items_view), unfolding(rrc_settings::specs::Faults::unless, settings_json::specs::Kinds::is_list))]
 fn list_of<'a>(at: &GrantPlace, value: &'a Value) -> Result<&'a [Value], GrantFault>
-    ensures good { OnOk result (is_list at.now (view value.now) ≡ None) }
+    ensures good { OnOk result (is_list names 0 4096 at.now (view value.now) ≡ None) }
     ensures elements { IfOk result (λ values. elements_of (view value.now) ≡ map view values.now) }
     ensures most { IfOk result (λ values. length values.now ≤ 4096) }
-    ensures fault { IfErr result (λ fault. is_list at.now (view value.now) ≡ Some fault) }
+    ensures fault { IfErr result (λ fault. is_list names 0 4096 at.now (view value.now) ≡ Some fault) }
 {
     let Some(values) = value.as_array() else {
         return Err(fault_at(at, Reason::WrongKind));
@@ -85,10 +84,10 @@ fn list_of<'a>(at: &GrantPlace, value: &'a Value) -> Result<&'a [Value], GrantFa
 }
 
 /// The grants that these values spell, in order.
-#[tactic(auto, using(crate::proofs::Elements::first_from_view_next, settings_json::proofs::Elements::take_view_next))]
+#[tactic(auto, using(settings_json::proofs::Elements::first_from_view_next, settings_json::proofs::Elements::take_view_next))]
 fn grants_in(alloc: Global, values: &[Value]) -> Result<Vec<Grant>, GrantsError>
     requires { length values.now ≤ 4096 }
-    ensures read { GivesList (each judge_grant (map view values.now)) (map grant_value (map view values.now)) result }
+    ensures read { GivesList (judge_each names judge_grant (whole_at None) (map view values.now)) (map grant_value (map view values.now)) result }
     ensures few { IfOk result (λ grants. length grants.items ≤ 4096) }
     ensures kept { IfOk result (λ grants. All IsReadGrant grants.items) }
 {
@@ -100,10 +99,10 @@ fn grants_in(alloc: Global, values: &[Value]) -> Result<Vec<Grant>, GrantsError>
 }
 
 /// The grants of the list, at their key.
-#[tactic(auto, unfolding(crate::specs::Faults::unless, crate::specs::Kinds::entry, crate::specs::Shapes::judge_grants))]
+#[tactic(auto, unfolding(rrc_settings::specs::Faults::unless, settings_json::specs::Kinds::entry, settings_json::specs::Kinds::judge_list))]
 fn grants_at(alloc: Global, value: &Value) -> Result<Vec<Grant>, GrantsError>
-    ensures read { GivesList (entry None (view value.now) (must keys.Grants judge_grants))
-        (map grant_value (elements_in keys.Grants (view value.now))) result }
+    ensures read { GivesList (entry names (whole_at None) (view value.now) (must keys.Grants (judge_list_of names 0 4096 judge_grant)))
+        (map grant_value (elements_in names keys.Grants (view value.now))) result }
     ensures few { IfOk result (λ grants. length grants.items ≤ 4096) }
     ensures kept { IfOk result (λ grants. All IsReadGrant grants.items) }
 {
@@ -148,7 +147,7 @@ fn value_of(alloc: Global, bytes: &[u8]) -> Result<Value, GrantsError>
 /// Reads the grants of one slot from a JSON text, where a frame has `10 * 2^mu` slots: the list that they spell, or the
 /// first fault, in the order in which the keys are listed and, in the fields of a grant, in ascending order of their
 /// words. `NotJson` comes exactly where the bytes are no UTF-8 or have no reading as JSON, which nests at most 127 deep.
-#[tactic(auto, using(crate::proofs::Readings::first_fault_of_json, crate::proofs::Readings::grants_of_json, crate::proofs::Readings::first_fault_of_no_json))]
+#[tactic(auto, using(settings_json::proofs::Readings::found_of_json, settings_json::proofs::Readings::spelled_of_json, settings_json::proofs::Readings::found_of_no_json))]
 pub fn read_grants(alloc: Global, mu: u16, bytes: &[u8]) -> Result<GrantList, GrantsError>
     requires { mu ≤ 3 }
     ensures no_json { IsNoJson bytes.now → (result ≡ Err NoMemory) ⊎ (result ≡ Err (Fault (fault_at (whole_at None) reasons.NotJson))) }

@@ -4,10 +4,10 @@ ghost use Rattle.rrc_settings.specs.Name.{is_name};
 ghost use Rattle.rrc_settings.specs.declared.place.Reason.TheVariants as reasons;
 ghost use Rattle.serde_json.specs.Find.{as_str};
 ghost use Rattle.serde_json.specs.View.{view};
+ghost use Rattle.settings_json.specs.Kinds.{entry, judge_text, must, text_in};
+ghost use Rattle.settings_json.specs.Reads.{Reads};
 ghost use Rattle.grant_file.specs.declared.place.GrantKey.TheVariants as keys;
-ghost use Rattle.grant_file.specs.Faults.{fault_at};
-ghost use Rattle.grant_file.specs.Kinds.{entry, judge_text, must, text_in};
-ghost use Rattle.grant_file.specs.Reads.{Reads};
+ghost use Rattle.grant_file.specs.Faults.{fault_at, names, whole_at};
 ghost use Rattle.grant_file.specs.Shapes.{is_format};
 ghost use Rattle.grant_file.specs.Values.{format_of};
 
@@ -30,9 +30,9 @@ fn text<'a>(at: &GrantPlace, value: &'a Value) -> Result<&'a [u8], GrantFault>
 }
 
 /// The name of the handset, at its key.
-#[tactic(auto, unfolding(crate::specs::Faults::unless, crate::specs::Kinds::entry, crate::specs::Kinds::judge_text))]
+#[tactic(auto, unfolding(rrc_settings::specs::Faults::unless, settings_json::specs::Kinds::entry, settings_json::specs::Kinds::judge_text))]
 pub(crate) fn handset_at(grant: Option<u16>, value: &Value) -> Result<Name, GrantFault>
-    ensures { Reads (entry grant (view value.now) (must keys.Handset (judge_text is_name))) (text_in keys.Handset (view value.now)) result }
+    ensures { Reads (entry names (whole_at grant) (view value.now) (must keys.Handset (judge_text names is_name))) (text_in names keys.Handset (view value.now)) result }
 {
     let found = required(grant, value, GrantKey::Handset)?;
     let at = place(grant, GrantKey::Handset);
@@ -43,9 +43,9 @@ pub(crate) fn handset_at(grant: Option<u16>, value: &Value) -> Result<Name, Gran
 }
 
 /// The format, at its key.
-#[tactic(auto, unfolding(crate::specs::Faults::unless, crate::specs::Kinds::entry, crate::specs::Kinds::judge_text))]
+#[tactic(auto, unfolding(rrc_settings::specs::Faults::unless, settings_json::specs::Kinds::entry, settings_json::specs::Kinds::judge_text))]
 pub(crate) fn format_at(grant: Option<u16>, value: &Value) -> Result<Format, GrantFault>
-    ensures { Reads (entry grant (view value.now) (must keys.Format (judge_text is_format))) (format_of (text_in keys.Format (view value.now))) result }
+    ensures { Reads (entry names (whole_at grant) (view value.now) (must keys.Format (judge_text names is_format))) (format_of (text_in names keys.Format (view value.now))) result }
 {
     let found = required(grant, value, GrantKey::Format)?;
     let at = place(grant, GrantKey::Format);

@@ -12,9 +12,7 @@ mod points;
 mod reader;
 mod writer;
 
+pub use decimal_text::push_number;
 pub use fault::{GridError, GridFault};
 pub use reader::read_grid;
 pub use writer::write_grid;
-
-#[cfg(test)]
-mod tests;

@@ -14,13 +14,13 @@ fn head_of(alloc: Global, grid: &Grid) -> Result<Vec<u8>, AllocError>
     ensures { IfOk result (λ text. text.items ≡ grid_head grid.now.mu grid.now.frame grid.now.slot grid.now.blocks) }
 {
     let mut text = Vec::from_slice(alloc, b"nrpdcch grid 1\nmu ")?;
-    push_number(alloc, &mut text, grid.mu())?;
+    push_number(alloc, &mut text, u64::from(grid.mu()))?;
     text.extend_from_slice(b" frame ")?;
-    push_number(alloc, &mut text, grid.frame())?;
+    push_number(alloc, &mut text, u64::from(grid.frame()))?;
     text.extend_from_slice(b" slot ")?;
-    push_number(alloc, &mut text, grid.slot())?;
+    push_number(alloc, &mut text, u64::from(grid.slot()))?;
     text.extend_from_slice(b" blocks ")?;
-    push_number(alloc, &mut text, grid.blocks())?;
+    push_number(alloc, &mut text, u64::from(grid.blocks()))?;
     text.push(b'\n')?;
     Ok(text)
 }

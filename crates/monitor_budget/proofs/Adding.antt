@@ -1,6 +1,6 @@
 -- What is counted, one candidate more and one CCE more.
-use Rattle.std.proofs.Common.{◌≡◌, ◌≢◌, ℕ, ◌+◌, ◌*◌, ◌/◌, ◌%◌, ◌<◌, ◌≤◌, ◌⊎◌, inl, inr, Bool, true, false, ◌&&◌, ◌||◌, ◌==◌, List, [], ◌∷◌, ◌++◌, map, length, take, get_or, Decides, refl, sym, ◌∙◌, ap, subst, arith, rules, ◌-◌}
-use Rattle.std.specs.List.{IsDistinct, list_any, range_with_len, flat_map}
+use Rattle.std.proofs.Common.{◌≡◌, ◌≢◌, ℕ, ◌+◌, ◌*◌, ◌<◌, ◌≤◌, inl, inr, Bool, true, false, ◌&&◌, ◌||◌, ◌==◌, List, [], ◌∷◌, ◌++◌, map, length, take, get_or, Decides, refl, sym, ◌∙◌, ap, subst, arith, rules, ◌-◌}
+use Rattle.std.specs.List.{list_any, range_with_len, flat_map}
 use Rattle.std.specs.Set.{is_member}
 use Rattle.std.proofs.lemmas.List.{take_more, map-append, append-nil}
 use Rattle.std.proofs.lemmas.Grind.{flat_map-append}
@@ -10,12 +10,11 @@ use Rattle.std.proofs.lemmas.Bool.{or_cases}
 use Rattle.std.proofs.lemmas.Bool.Decides.{Decides-and, Decides-eqb, same_from_decides}
 use Rattle.std.proofs.lemmas.Map.Keys.{IsDistinct-push}
 use Rattle.rrc_settings.specs.Equality.{equivalence_from_decides}
-use Rattle.rrc_settings.specs.declared.settings.SearchSet.{SearchSet}
 use Rattle.monitor_budget.specs.declared.candidates.Candidate.{Candidate}
 use Rattle.monitor_budget.specs.declared.counted.Counted.{Counted}
 use Rattle.monitor_budget.specs.contracts.counted.CountedPartialEq.TheImpl as counted
 use Rattle.monitor_budget.specs.Equality.{decides_counted}
-use Rattle.monitor_budget.specs.Counts.{is_counted, Cce, is_cce, cces_from, cces_of_candidate, counted_as}
+use Rattle.monitor_budget.specs.Counts.{is_counted, Cce, is_cce, cces_from}
 use Rattle.monitor_budget.specs.Tally.{mark_of, HasMark, is_marked, AddsCounted, AddsCces}
 use Rattle.monitor_budget.proofs.Distinct.{list_any_agree, or_turned, or_none, or_into, or_grouped}
 

@@ -1,6 +1,6 @@
 -- An allotment, one set more.
 use Rattle.std.proofs.Common.{◌≡◌, ℕ, zero, suc, ◌+◌, ◌<◌, ◌≤◌, Bool, true, false, cond, Result, Ok, Err, IfOk, All, drop, inl, inr, ◌&&◌, nat_le, List, [], ◌∷◌, ◌++◌, length, take, get_or, count_by, refl, sym, ◌∙◌, ap, subst, arith}
-use Rattle.std.proofs.lemmas.List.{append_assoc, append-nil, take_more, take-append-drop}
+use Rattle.std.proofs.lemmas.List.{append_assoc, take_more, take-append-drop}
 use Rattle.std.proofs.lemmas.Bool.{leb-true}
 use Rattle.arrayvec.specs.ArrayVec.{ArrayVec}
 use Rattle.rrc_settings.specs.declared.settings.RawCell.{RawCell}

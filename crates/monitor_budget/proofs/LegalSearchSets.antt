@@ -1,5 +1,5 @@
 -- What the settings of a legal cell say of its search space sets.
-use Rattle.std.proofs.Common.{◌≡◌, ℕ, zero, suc, ◌+◌, ◌*◌, ◌^◌, ◌<◌, ◌≤◌, ◌⊎◌, inl, inr, Bool, true, false, not, ◌&&◌, ◌||◌, List, [], ◌∷◌, ◌++◌, map, length, take, get_or, nat_lt, nat_eq, nat_le, bytes_eq, Option, Some, None, IsSome, is_none, is_some, unwrap_or, slice_index, cond, find, refl, sym, ◌∙◌, ap, subst, arith}
+use Rattle.std.proofs.Common.{◌≡◌, ℕ, zero, suc, ◌+◌, ◌<◌, ◌≤◌, inl, inr, Bool, true, false, not, ◌&&◌, ◌||◌, List, [], ◌∷◌, ◌++◌, map, length, take, get_or, nat_lt, nat_eq, nat_le, bytes_eq, Option, Some, None, IsSome, is_none, is_some, unwrap_or, slice_index, cond, find, refl, sym, ◌∙◌, ap, subst, arith}
 use Rattle.std.specs.List.{range_with_len, list_any, list_all}
 use Rattle.std.proofs.lemmas.Bool.{or_cases, leb-true, leb-false, eqb-true, cases_order}
 use Rattle.std.proofs.lemmas.Bool.Decides.{Decides-ltb, Decides-eqb}
@@ -13,16 +13,18 @@ use Rattle.rrc_settings.specs.declared.settings.Handset.{Handset}
 use Rattle.rrc_settings.specs.declared.settings.Coreset.{Coreset}
 use Rattle.rrc_settings.specs.declared.settings.SearchSet.{SearchSet}
 use Rattle.rrc_settings.specs.Name.{is_from_to}
-use Rattle.rrc_settings.specs.Faults.{Steps, Finding, ◌▸◌, element, unless, first_of, first_in, each_after, each}
+use Rattle.rrc_settings.specs.Faults.{Steps, Finding, ◌▸◌, element, first_in, each_after, each}
 use Rattle.rrc_settings.specs.Table.{in_range, list_ranges, cell_table, cell_ranges, handset_table, handset_ranges, set_table, set_ranges, is_one_of, is_period, is_candidate_count, if_given}
 use Rattle.rrc_settings.specs.Conflicts.{has_bit, end_of, cces_of, coreset_numbered, holds_if_given, ends_after_slot, asks_above, is_common, is_specific, conflict, timing_conflicts, set_conflicts, coreset_conflicts, handset_conflicts, uplink_conflicts, downlink_conflicts}
+use Rattle.rrc_settings.specs.ControlGroups.{cces_in}
 use Rattle.rrc_settings.specs.Legal.{IsLegal}
 use Rattle.rrc_settings.specs.HandsetsOfCell.{no_handset, handset_at}
 use Rattle.coreset_map.specs.ResourcesOfCell.{no_coreset, coreset_at, resources_in}
 use Rattle.coreset_map.proofs.LegalSets.{AllNone, none-all, unless-none, conflict-none, Passes, first_in-none, not_below, legal-ranges, legal-handset_ranges, legal-handset_conflicts}
 use Rattle.coreset_map.proofs.LegalResources.{between, length-groups}
 use Rattle.coreset_map.specs.ControlResources.{cce_count}
-use Rattle.monitor_budget.specs.SetCandidates.{level_at, AreAsked}
+use Rattle.rrc_settings.specs.AggregationLevels.{level_at}
+use Rattle.monitor_budget.specs.SetCandidates.{AreAsked}
 use Rattle.monitor_budget.specs.Counts.{no_set, set_at, coreset_of}
 
 -- the numbers of a cell are in range
@@ -182,7 +184,7 @@ pub record IsLegalSearchSet (h : Handset) (s : SearchSet) : Type 0 where
   pub offset : s.offset < s.period
   pub counts : (i : ℕ) → slice_index s.candidates i ≤ 8
   pub found : IsSome (coreset_numbered s.coreset h.coresets.items)
-  pub asked : (i : ℕ) → i < 5 → 0 < slice_index s.candidates i → 2 ^ i ≤ cces_of (coreset_of h s)
+  pub asked : (i : ℕ) → i < 5 → 0 < slice_index s.candidates i → level_at i ≤ cces_of (coreset_of h s)
   pub ends : (y : ℕ) → y < 16 → has_bit s.symbols y ≡ true → y + (coreset_of h s).duration ≤ 14
   pub fields : is_specific s.kind ≡ true → (is_some h.uplink_fields ≡ true) × (is_some h.downlink_fields ≡ true)
 
@@ -206,11 +208,11 @@ few_counted (n ∷ ns) zero h =
     one_of-below n 8 (0 ∷ 1 ∷ 2 ∷ 3 ∷ 4 ∷ 5 ∷ 6 ∷ 8 ∷ []) refl (both_pass (is_candidate_count n) (list_all is_candidate_count ns) h).0
 few_counted (n ∷ ns) (suc i) h = few_counted ns i (both_pass (is_candidate_count n) (list_all is_candidate_count ns) h).1
 
-asked-all : (cces : ℕ) (candidates : List ℕ) → asks_above cces candidates ≡ false → (i : ℕ) → i < 5 → 0 < slice_index candidates i → 2 ^ i ≤ cces
+asked-all : (cces : ℕ) (candidates : List ℕ) → asks_above cces candidates ≡ false → (i : ℕ) → i < 5 → 0 < slice_index candidates i → level_at i ≤ cces
 unfolding asks_above
 asked-all cces candidates h i l some =
-    not_below _ cces (2 ^ i) refl
-    (not_both (nat_lt 0 (slice_index candidates i)) (nat_lt cces (2 ^ i)) (none_passes (λ j. nat_lt 0 (slice_index candidates j) && nat_lt cces (2 ^ j)) 5 h i l)
+    not_below _ cces (level_at i) refl
+    (not_both (nat_lt 0 (slice_index candidates i)) (nat_lt cces (level_at i)) (none_passes (λ j. nat_lt 0 (slice_index candidates j) && nat_lt cces (level_at j)) 5 h i l)
     ((Decides-ltb 0 (slice_index candidates i)).1 some))
 
 ends-all : (duration symbols : ℕ) → ends_after_slot duration symbols ≡ false → (y : ℕ) → y < 16 → has_bit symbols y ≡ true → y + duration ≤ 14
@@ -246,23 +248,14 @@ legal-set raw handset set h l m =
     }
 
 -- the CORESET of a set asks for candidates that fit
-level-power : (i : ℕ) → i < 5 → level_at i ≡ 2 ^ i
-level-power zero h = refl
-level-power (suc zero) h = refl
-level-power (suc (suc zero)) h = refl
-level-power (suc (suc (suc zero))) h = refl
-level-power (suc (suc (suc (suc zero)))) h = refl
-level-power (suc (suc (suc (suc (suc n))))) h = absurd (omega arith)
-
 pub are-asked : (cell start cces : ℕ) (h : Handset) (s : SearchSet) → IsLegalSearchSet h s
     → cces ≡ cce_count (resources_in cell start (coreset_of h s)) → AreAsked cces s.candidates
 are-asked cell start cces h s l e i below = (
   l.counts i,
   λ some.
-      let n = ap (λ k. k * (coreset_of h s).duration) (length-groups (coreset_of h s).groups) in
+      let n = ap (λ k. cces_in k (coreset_of h s).duration) (length-groups (coreset_of h s).groups) in
       let a = l.asked i below some in
-      let p = level-power i below in
-      omega (arith, e, n, a, p),
+      omega (arith, e, n, a),
 )
 
 -- no two sets of a handset have the same number

@@ -3,7 +3,8 @@ use Rattle.std.proofs.Common.{◌≡◌, ℕ, List, ◌++◌, map, ap, ◌∙◌
 use Rattle.rrc_settings.specs.declared.settings.SearchSet.{SearchSet}
 use Rattle.search_starts.specs.Starts.{start_of}
 use Rattle.monitor_budget.specs.declared.candidates.Candidate.{Candidate}
-use Rattle.monitor_budget.specs.SetCandidates.{level_at, sized, numbered_candidates}
+use Rattle.rrc_settings.specs.AggregationLevels.{level_at}
+use Rattle.monitor_budget.specs.SetCandidates.{sized, numbered_candidates}
 
 -- a candidate from its parts, at each size
 pub numbered_made : (cces : ℕ) (sizes : List ℕ) (s : SearchSet) (symbol i m start level : ℕ) (now next : List Candidate)

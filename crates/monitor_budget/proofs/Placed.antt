@@ -1,15 +1,14 @@
 -- Where the candidates of a set stand.
-use Rattle.std.proofs.Common.{◌≡◌, ℕ, zero, suc, ◌+◌, ◌*◌, ◌/◌, ◌%◌, ◌<◌, ◌≤◌, Bool, true, List, [], ◌∷◌, map, length, All, slice_index, refl, sym, ◌∙◌, ap, subst, arith}
-use Rattle.std.specs.List.{range_with_len, flat_map, filter}
-use Rattle.std.proofs.Math.Nat.{mod-lt, div-add-mod, mul-le-mul_left, mul_comm}
-use Rattle.std.proofs.lemmas.List.Elements.{All-from_get_or}
+use Rattle.std.proofs.Common.{◌≡◌, ℕ, zero, suc, ◌+◌, ◌*◌, ◌/◌, ◌%◌, ◌<◌, ◌≤◌, true, List, All, slice_index, refl, sym, subst, arith}
+use Rattle.std.specs.List.{range_with_len}
+use Rattle.std.proofs.Math.Nat.{mod-lt, div-add-mod, mul-le-mul_left}
 use Rattle.rrc_settings.specs.declared.settings.SearchSet.{SearchSet}
-use Rattle.rrc_settings.specs.Table.{is_one_of}
+use Rattle.rrc_settings.specs.AggregationLevels.{level_at, is_level}
 use Rattle.rrc_settings.specs.Conflicts.{has_bit}
 use Rattle.search_starts.specs.Starts.{start_of}
 use Rattle.coreset_map.proofs.Members.{IsIn, in-map, in-range, in-flat_map, in-filter, at-in}
 use Rattle.monitor_budget.specs.declared.candidates.Candidate.{Candidate}
-use Rattle.monitor_budget.specs.SetCandidates.{symbols_of, level_at, candidate_at, numbered_candidates, level_candidates, symbol_candidates, set_candidates, AreAsked, IsPlaced}
+use Rattle.monitor_budget.specs.SetCandidates.{symbols_of, candidate_at, numbered_candidates, level_candidates, symbol_candidates, set_candidates, AreAsked, IsPlaced}
 
 -- a candidate of a set, by its symbol, level, number and size
 pub record IsOf (cces : ℕ) (sizes : List ℕ) (s : SearchSet) (c : Candidate) : Type 0 where
@@ -42,13 +41,13 @@ in-set cces sizes s c h =
       is = e;
     }
 
-one_of-level : (i : ℕ) → i < 5 → is_one_of (1 ∷ 2 ∷ 4 ∷ 8 ∷ 16 ∷ []) (level_at i) ≡ true
-one_of-level zero h = refl
-one_of-level (suc zero) h = refl
-one_of-level (suc (suc zero)) h = refl
-one_of-level (suc (suc (suc zero))) h = refl
-one_of-level (suc (suc (suc (suc zero)))) h = refl
-one_of-level (suc (suc (suc (suc (suc n))))) h = absurd (omega arith)
+is_level-at : (i : ℕ) → i < 5 → is_level (level_at i) ≡ true
+is_level-at zero h = refl
+is_level-at (suc zero) h = refl
+is_level-at (suc (suc zero)) h = refl
+is_level-at (suc (suc (suc zero))) h = refl
+is_level-at (suc (suc (suc (suc zero)))) h = refl
+is_level-at (suc (suc (suc (suc (suc n))))) h = absurd (omega arith)
 
 some-level : (i : ℕ) → i < 5 → 1 ≤ level_at i
 some-level zero h = omega arith
@@ -84,7 +83,7 @@ is-placed cces sizes s c asked h =
     subst (λ (x : Candidate). IsPlaced cces s x) (sym o.is) (record {
       symbol = let k = r.1 in omega (arith, k);
       begins = b.1;
-      level = one_of-level o.i o.level;
+      level = is_level-at o.i o.level;
       within = start-within s.base (level_at o.i) o.m (slice_index s.candidates o.i) cces (some-level o.i o.level) fits;
     })
 

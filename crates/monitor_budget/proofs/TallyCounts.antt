@@ -1,5 +1,5 @@
 -- What a tally counts, one set more, and how many.
-use Rattle.std.proofs.Common.{◌≡◌, ℕ, Bool, false, replicate, List, [], ◌∷◌, ◌++◌, length, count_by, refl, sym, ◌∙◌, ap, subst}
+use Rattle.std.proofs.Common.{◌≡◌, ℕ, Bool, false, replicate, List, [], ◌∷◌, ◌++◌, length, count_by, sym, ◌∙◌, ap, subst}
 use Rattle.std.specs.List.{flat_map}
 use Rattle.std.proofs.lemmas.List.{append-nil}
 use Rattle.std.proofs.lemmas.Grind.{flat_map-append}

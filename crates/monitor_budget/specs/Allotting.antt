@@ -3,12 +3,10 @@ use Rattle.std.specs.Prelude.{ℕ, zero, suc, ◌++◌, Bool, true, false, not, 
 use Rattle.std.specs.List.{range_with_len, flat_map, filter}
 use Rattle.rrc_settings.specs.declared.settings.RawCell.{RawCell}
 use Rattle.rrc_settings.specs.declared.settings.Handset.{Handset}
-use Rattle.rrc_settings.specs.declared.settings.SearchSet.{SearchSet}
 use Rattle.rrc_settings.specs.declared.settings.SetKind.{SetKind}
 use Rattle.rrc_settings.specs.Conflicts.{is_common}
 use Rattle.dci_fields.specs.declared.sizes.Sizes.{Sizes}
 use Rattle.search_starts.specs.Calendar.{slots_before, is_monitored}
-use Rattle.rrc_settings.specs.HandsetsOfCell.{handset_at}
 use Rattle.monitor_budget.specs.declared.allotment.CommonOver.{CommonOver}
 use Rattle.monitor_budget.specs.declared.allotment.Allotment.{Allotment}
 use Rattle.monitor_budget.specs.Counts.{set_at, candidate_count, different_cces}

@@ -7,7 +7,7 @@ use Rattle.rrc_settings.specs.declared.settings.SearchSet.{SearchSet}
 use Rattle.rrc_settings.specs.declared.settings.SetKind.{SetKind}
 use Rattle.rrc_settings.specs.declared.settings.SetKind.TheVariants.{Common, Fallback, Specific}
 use Rattle.rrc_settings.specs.Conflicts.{has_bit}
-use Rattle.rrc_settings.specs.Table.{is_one_of}
+use Rattle.rrc_settings.specs.AggregationLevels.{level_at, is_level}
 use Rattle.dci_fields.specs.declared.sizes.Sizes.{Sizes}
 use Rattle.search_starts.specs.Starts.{start_of}
 use Rattle.monitor_budget.specs.declared.candidates.Candidate.{Candidate}
@@ -32,10 +32,6 @@ sizes_in sizes Specific = rising_sizes sizes.up sizes.down
 -- the symbols of a slot at which a set begins, rising
 abbrev pub symbols_of : SearchSet → List ℕ
 symbols_of s = filter (has_bit s.symbols) (range_with_len 0 14)
-
--- the aggregation levels, each how many CCEs a candidate has
-abbrev pub level_at : ℕ → ℕ
-level_at i = slice_index (1 ∷ 2 ∷ 4 ∷ 8 ∷ 16 ∷ []) i
 
 -- candidate m at level i of the list, of a set on a CORESET with so many CCEs, at a symbol and a size
 abbrev pub candidate_at : ℕ → SearchSet → ℕ → ℕ → ℕ → ℕ → Candidate
@@ -77,5 +73,5 @@ AreAsked cces candidates =
 pub record IsPlaced (cces : ℕ) (s : SearchSet) (c : Candidate) : Type 0 where
   pub symbol : c.symbol < 14
   pub begins : has_bit s.symbols c.symbol ≡ true
-  pub level : is_one_of (1 ∷ 2 ∷ 4 ∷ 8 ∷ 16 ∷ []) c.level ≡ true
+  pub level : is_level c.level ≡ true
   pub within : c.start + c.level ≤ cces

@@ -1,5 +1,5 @@
 -- What counting leaves: the candidates that were seen, each once, and a mark for each CCE.
-use Rattle.std.specs.Prelude.{◌≡◌, ℕ, ◌+◌, ◌*◌, ◌<◌, ◌≤◌, Bool, true, false, replicate, [], ◌||◌, List, slice_index_or, length, All}
+use Rattle.std.specs.Prelude.{◌≡◌, ℕ, ◌+◌, ◌*◌, ◌<◌, ◌≤◌, Bool, true, false, replicate, [], ◌||◌, List, slice_index_or, All}
 use Rattle.std.specs.List.{IsDistinct}
 use Rattle.std.specs.Set.{is_member}
 use Rattle.monitor_budget.specs.declared.counted.Counted.{Counted}

@@ -7,7 +7,7 @@ ghost use Rattle.monitor_budget.specs.SetCandidates.{AreAsked, level_candidates,
 use crate::sets::{cces_under, handset_in, has_bit, set_in, sizes_in};
 use arrayvec::ArrayVec;
 use dci_fields::Sizes;
-use rrc_settings::{Cell, SearchSet};
+use rrc_settings::{Cell, LEVELS, SearchSet};
 use search_starts::start_cce;
 
 /// A candidate of a search space set in a slot.
@@ -24,9 +24,6 @@ pub struct Candidate {
     /// The size of its payload.
     pub size: u16,
 }
-
-/// The aggregation levels.
-const LEVELS: [u8; 5] = [1, 2, 4, 8, 16];
 
 /// The candidates of the set at a place in the list of a handset, in search order. `sizes` are the handset's.
 pub fn candidates_of(

@@ -1,5 +1,5 @@
 -- The formats of each kind of set fit their sizes.
-use Rattle.std.proofs.Common.{◌≡◌, ℕ, zero, suc, ◌+◌, ◌-◌, ◌<◌, ◌≤◌, Bool, true, false, ◌&&◌, cond, nat_eq, max, Option, Some, None, is_some, unwrap_or, IfSome, IsTrue, List, [], ◌∷◌, map, refl, sym, ◌∙◌, ap, subst, arith}
+use Rattle.std.proofs.Common.{◌≡◌, ℕ, ◌+◌, ◌-◌, ◌<◌, ◌≤◌, Bool, true, false, ◌&&◌, cond, nat_eq, Option, Some, None, is_some, IfSome, List, [], ◌∷◌, map, refl, sym, ◌∙◌, ap, subst, arith}
 use Rattle.std.proofs.lemmas.Bool.{eqb-true}
 use Rattle.rrc_settings.specs.declared.settings.RawCell.{RawCell}
 use Rattle.rrc_settings.specs.declared.settings.Handset.{Handset}
@@ -8,8 +8,7 @@ use Rattle.rrc_settings.specs.declared.settings.DownlinkFields.{DownlinkFields}
 use Rattle.rrc_settings.specs.declared.settings.SetKind.{SetKind}
 use Rattle.rrc_settings.specs.declared.settings.SetKind.TheVariants as kinds
 use Rattle.rrc_settings.specs.Conflicts.{is_specific}
-use Rattle.dci_fields.specs.declared.formats.Format.{Format}
-use Rattle.dci_fields.specs.declared.formats.Format.TheVariants.{F00, F10, F01, F11}
+use Rattle.dci_fields.specs.declared.formats.Format.TheVariants.{F00, F10}
 use Rattle.dci_fields.specs.declared.formats.Widths.{Widths}
 use Rattle.dci_fields.specs.declared.formats.Widths.TheVariants.{Common, Own}
 use Rattle.dci_fields.specs.declared.names.FieldName.TheVariants as names
@@ -17,20 +16,23 @@ use Rattle.dci_fields.specs.declared.rows.FieldRow.{FieldRow}
 use Rattle.dci_fields.specs.declared.sizes.Sizes.{Sizes}
 use Rattle.dci_fields.specs.LegalSettings.{IsBwp, AreUplinkSettings, AreDownlinkSettings, AreInitialParts, IsLegalHandset}
 use Rattle.dci_fields.specs.SameNames.{same_name}
-use Rattle.dci_fields.specs.FieldLists.{width_of}
-use Rattle.dci_fields.specs.Assignments.{span_bits, fdra_width, downlink_blocks, uplink_blocks}
-use Rattle.dci_fields.specs.FormatRows.{row, rows_00, rows_10, rows_of, uplink_rows, downlink_rows, has_fields}
+use Rattle.dci_fields.specs.FieldLists.{width_of, IsFieldList}
+use Rattle.dci_fields.specs.Assignments.{span_bits, downlink_blocks, uplink_blocks}
+use Rattle.dci_fields.specs.FormatRows.{row, rows_00, rows_10, rows_of, uplink_rows, downlink_rows}
 use Rattle.dci_fields.specs.FittedRows.{excess, fdra_of, cut_row, fitted}
 use Rattle.dci_fields.specs.Alignment.{has_set, raw_size, where_monitored, common_size, fallback_size, told_apart, are_few, sizes_apart, sizes_joined, sizes_of}
+use Rattle.dci_fields.proofs.RowLists.{fitted_is_list}
 use Rattle.monitor_plan.specs.Watch.{is_for_fallback, HasRoomForOrder}
 use Rattle.monitor_plan.specs.Watches.{up_format, down_format, up_size, down_size, widths_in}
-use Rattle.monitor_plan.proofs.SpanWidths.{IsSpanWidth, span-width, IsFdraWidth, fdra-width, downlink-count, uplink-count}
+use Rattle.monitor_plan.proofs.SpanWidths.{IsSpanWidth, span-width, fdra-width, downlink-count, uplink-count}
 use Rattle.monitor_plan.proofs.FormatWidths.{width-00, width-10, IsWidth, width-01, width-11}
+use Rattle.monitor_plan.proofs.FormatLists.{list-00, list-10, list-01, list-11}
 
 -- rows that fit a size
 pub record Fit (rows : List FieldRow) (size : ℕ) : Type 0 where
   pub cut : excess rows size < fdra_of rows
   pub within : width_of (fitted rows size) ≤ size
+  pub list : IsFieldList (fitted rows size)
   pub least : 23 ≤ size
   pub most : size ≤ 84
 
@@ -43,13 +45,14 @@ same-rows (r ∷ rs) = ap (λ (x : FieldRow). x ∷ map (cut_row 0) rs) (same-ro
     same-row true r = ap (λ (n : ℕ). row r.name n) (let z : r.width - 0 ≡ r.width = omega arith in z)
     same-row false r = refl
 
-no-cut : (rows : List FieldRow) (size : ℕ) → width_of rows ≤ size → 0 < fdra_of rows → 23 ≤ size → size ≤ 84 → Fit rows size
-no-cut rows size h some least most =
+no-cut : (rows : List FieldRow) (size : ℕ) → IsFieldList rows → width_of rows ≤ size → 0 < fdra_of rows → 23 ≤ size → size ≤ 84 → Fit rows size
+no-cut rows size list h some least most =
     let none : excess rows size ≡ 0 = omega (arith, h) in
     let same : fitted rows size ≡ rows = ap (λ n. map (cut_row n) rows) none ∙ same-rows rows in
     record {
       cut = subst (λ n. n < fdra_of rows) (sym none) some;
       within = subst (λ xs. width_of xs ≤ size) (sym same) h;
+      list = subst IsFieldList (sym same) list;
       least = least;
       most = most;
     }
@@ -59,9 +62,11 @@ fit-00 : (f g size : ℕ) → IsSpanWidth f → IsSpanWidth g → 28 + g ≤ siz
 fit-00 f g size h k l m =
     let a = h.least in let b = h.most in let c = k.least in
     let w = width-00 f in
+    let cut : excess (rows_00 f) size < fdra_of (rows_00 f) = omega (arith, w, a, b, c, l) in
     record {
-      cut = omega (arith, w, a, b, c, l);
+      cut = cut;
       within = omega (arith, a, b, c, l);
+      list = fitted_is_list (rows_00 f) size (list-00 f h) cut;
       least = omega (arith, c, l);
       most = m;
     }
@@ -70,7 +75,7 @@ fit-00 f g size h k l m =
 fit-10 : (g size : ℕ) → IsSpanWidth g → 28 + g ≤ size → size ≤ 84 → Fit (rows_10 g) size
 fit-10 g size k l m =
     let c = k.least in
-    no-cut (rows_10 g) size (let w = width-10 g in omega (arith, w, l)) (omega (arith, c)) (omega (arith, c, l)) m
+    no-cut (rows_10 g) size (list-10 g k) (let w = width-10 g in omega (arith, w, l)) (omega (arith, c)) (omega (arith, c, l)) m
 
 -- rows fit where a size is theirs
 abbrev pub Fits : Option ℕ → List FieldRow → Type 0
@@ -142,18 +147,20 @@ told-within m fallback size h k = by (m && nat_eq size fallback) refl
     by false e = (omega arith, omega (arith, k))
 
 -- a size between those of a format and one more
-other-fit : (rows : List FieldRow) (n size : ℕ) → IsWidth n (width_of rows) → 0 < fdra_of rows → width_of rows ≤ size → size ≤ 84 → Fit rows size
-other-fit rows n size w some l m = no-cut rows size l some (let a = w.least in omega (arith, a, l)) m
+other-fit : (rows : List FieldRow) (n size : ℕ) → IsFieldList rows → IsWidth n (width_of rows) → 0 < fdra_of rows → width_of rows ≤ size → size ≤ 84 → Fit rows size
+other-fit rows n size list w some l m = no-cut rows size list l some (let a = w.least in omega (arith, a, l)) m
 
 -- the rows of formats 0_1 and 1_1
 record IsOther (n : ℕ) (rows : List FieldRow) : Type 0 where
   width : IsWidth n (width_of rows)
+  list : IsFieldList rows
   some : 0 < fdra_of rows
 
 up-other : (h : Handset) (o : Option UplinkFields) → IsBwp h.uplink → IfSome o AreUplinkSettings → is_some o ≡ true → IsOther 74 (uplink_rows h o)
 up-other h None b s e = absurd (cc)
 up-other h (Some f) b s e = record {
   width = width-01 h.codebook h.uplink f b s;
+  list = list-01 h.codebook h.uplink f b s;
   some = let w = fdra-width h.uplink f.allocation f.rbg_config b in let l = w.least in omega (arith, l);
 }
 
@@ -161,6 +168,7 @@ down-other : (h : Handset) (o : Option DownlinkFields) → IsBwp h.downlink → 
 down-other h None b s e = absurd (cc)
 down-other h (Some f) b s e = record {
   width = width-11 h.codebook h.downlink f b s;
+  list = list-11 h.codebook h.downlink f b s;
   some = let w = fdra-width h.downlink f.allocation f.rbg_config b in let l = w.least in omega (arith, l);
 }
 
@@ -168,10 +176,10 @@ told-fit : (rows : List FieldRow) (n : ℕ) (m : Bool) (fallback : ℕ) → n �
 told-fit rows n m fallback l f o =
     let w = o.width in
     let t = told-within m fallback (width_of rows) f (let k = w.most in omega (arith, k, l)) in
-    other-fit rows n (told_apart m fallback (width_of rows)) w o.some t.0 t.1
+    other-fit rows n (told_apart m fallback (width_of rows)) o.list w o.some t.0 t.1
 
 raw-fit : (rows : List FieldRow) (n : ℕ) → n ≤ 84 → IsOther n rows → Fit rows (width_of rows)
-raw-fit rows n l o = let w = o.width in other-fit rows n (width_of rows) w o.some (omega arith) (let k = w.most in omega (arith, k, l))
+raw-fit rows n l o = let w = o.width in other-fit rows n (width_of rows) o.list w o.some (omega arith) (let k = w.most in omega (arith, k, l))
 
 -- what holds of the formats of a kind of set
 pub record SetFit (cell : RawCell) (h : Handset) (sizes : Sizes) (kind : SetKind) : Type 0 where

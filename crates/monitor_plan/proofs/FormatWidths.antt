@@ -1,19 +1,16 @@
 -- How many bits the formats of a legal cell have.
-use Rattle.std.proofs.Common.{◌≡◌, ℕ, zero, suc, ◌+◌, ◌-◌, ◌*◌, ◌^◌, ◌<◌, ◌≤◌, Bool, true, false, not, ◌&&◌, cond, nat_eq, Option, Some, None, is_some, IfSome, IsTrue, List, [], ◌∷◌, map, slice_index, refl, sym, ◌∙◌, ap, subst, arith}
-use Rattle.alloc_fields.specs.Widths.{bits_for}
+use Rattle.std.proofs.Common.{◌≡◌, ℕ, zero, suc, ◌+◌, ◌≤◌, Bool, true, false, not, ◌&&◌, cond, nat_eq, arith}
 use Rattle.alloc_fields.proofs.LeastBits.{bits_for-le}
 use Rattle.rrc_settings.specs.declared.settings.Bwp.{Bwp}
 use Rattle.rrc_settings.specs.declared.settings.Codebook.{Codebook}
 use Rattle.rrc_settings.specs.declared.settings.Codebook.TheVariants.{SemiStatic, Dynamic}
 use Rattle.rrc_settings.specs.declared.settings.UplinkFields.{UplinkFields}
 use Rattle.rrc_settings.specs.declared.settings.DownlinkFields.{DownlinkFields}
-use Rattle.dci_fields.specs.declared.rows.FieldRow.{FieldRow}
 use Rattle.dci_fields.specs.LegalSettings.{IsBwp, AreUplinkSettings, AreDownlinkSettings}
 use Rattle.dci_fields.specs.FieldLists.{width_of}
-use Rattle.dci_fields.specs.Assignments.{fdra_width}
-use Rattle.dci_fields.specs.Antennas.{by_signal, downlink_ports, sri_width, precoding_width, uplink_ports}
+use Rattle.dci_fields.specs.Antennas.{by_signal, downlink_ports, uplink_ports}
 use Rattle.dci_fields.specs.FormatRows.{where_set, bwp_width, has_type1, downlink_index, uplink_index, rows_00, rows_10, rows_01, rows_11}
-use Rattle.monitor_plan.proofs.SpanWidths.{IsFdraWidth, fdra-width}
+use Rattle.monitor_plan.proofs.SpanWidths.{fdra-width}
 
 -- the formats of fallback
 pub width-00 : (f : ℕ) → width_of (rows_00 f) ≡ 20 + f
@@ -23,11 +20,11 @@ pub width-10 : (f : ℕ) → width_of (rows_10 f) ≡ 28 + f
 width-10 f = omega arith
 
 -- parts of the others
-set-le : (b : Bool) (n : ℕ) → where_set b n ≤ n
+pub set-le : (b : Bool) (n : ℕ) → where_set b n ≤ n
 set-le true n = omega arith
 set-le false n = omega arith
 
-bwp-le : (n : ℕ) → bwp_width n ≤ 2
+pub bwp-le : (n : ℕ) → bwp_width n ≤ 2
 bwp-le zero = omega arith
 bwp-le (suc zero) = omega arith
 bwp-le (suc (suc zero)) = omega arith
@@ -35,11 +32,11 @@ bwp-le (suc (suc (suc zero))) = omega arith
 bwp-le (suc (suc (suc (suc zero)))) = omega arith
 bwp-le (suc (suc (suc (suc (suc n))))) = omega arith
 
-down_index-le : (c : Codebook) → downlink_index c ≤ 2
+pub down_index-le : (c : Codebook) → downlink_index c ≤ 2
 down_index-le SemiStatic = omega arith
 down_index-le Dynamic = omega arith
 
-up_index-is : (c : Codebook) → (1 ≤ uplink_index c) × (uplink_index c ≤ 2)
+pub up_index-is : (c : Codebook) → (1 ≤ uplink_index c) × (uplink_index c ≤ 2)
 up_index-is SemiStatic = (omega arith, omega arith)
 up_index-is Dynamic = (omega arith, omega arith)
 
@@ -53,13 +50,13 @@ by_signal-within t l a b c d low high p q r s =
     cond-within (nat_eq t 1) (cond (nat_eq l 1) a b) (cond (nat_eq l 1) c d) low high
     (cond-within (nat_eq l 1) a b low high p q) (cond-within (nat_eq l 1) c d low high r s)
 
-up_ports-within : (f : UplinkFields) → (2 ≤ uplink_ports f) × (uplink_ports f ≤ 5)
+pub up_ports-within : (f : UplinkFields) → (2 ≤ uplink_ports f) × (uplink_ports f ≤ 5)
 up_ports-within f =
     cond-within f.transform (cond (nat_eq f.dmrs_length 1) 2 4) (by_signal f.dmrs_type f.dmrs_length 3 4 4 5) 2 5
     (cond-within (nat_eq f.dmrs_length 1) 2 4 2 5 (omega arith, omega arith) (omega arith, omega arith))
     (by_signal-within f.dmrs_type f.dmrs_length 3 4 4 5 2 5 (omega arith, omega arith) (omega arith, omega arith) (omega arith, omega arith) (omega arith, omega arith))
 
-down_ports-within : (f : DownlinkFields) → (0 ≤ downlink_ports f) × (downlink_ports f ≤ 6)
+pub down_ports-within : (f : DownlinkFields) → (0 ≤ downlink_ports f) × (downlink_ports f ≤ 6)
 down_ports-within f =
     by_signal-within f.dmrs_type f.dmrs_length 4 5 5 6 0 6 (omega arith, omega arith) (omega arith, omega arith) (omega arith, omega arith) (omega arith, omega arith)
 

@@ -1,5 +1,6 @@
 pub mod SpanWidths
 pub mod FormatWidths
+pub mod FormatLists
 pub mod FittingSizes
 pub mod SetFits
 pub mod WatchParts

@@ -1,11 +1,10 @@
 -- The plan as the code makes it.
-use Rattle.std.proofs.Common.{◌≡◌, ℕ, ◌<◌, ◌↔◌, List, Result, Ok, Err, All, length, refl, sym, ◌∙◌, ap, subst}
+use Rattle.std.proofs.Common.{◌≡◌, ℕ, ◌<◌, ◌↔◌, List, Result, Ok, Err, All, length, sym, ◌∙◌, ap, subst}
 use Rattle.rrc_settings.specs.declared.settings.RawCell.{RawCell}
 use Rattle.rrc_settings.specs.Legal.{IsLegal}
 use Rattle.dci_fields.specs.declared.sizes.Sizes.{Sizes}
 use Rattle.dci_fields.specs.Alignment.{sizes_of}
 use Rattle.rrc_settings.specs.HandsetsOfCell.{handset_at}
-use Rattle.coreset_map.proofs.Members.{IsIn}
 use Rattle.monitor_budget.specs.declared.allotment.Allotment.{Allotment}
 use Rattle.monitor_budget.specs.declared.allotment.CommonOver.{CommonOver as Over}
 use Rattle.monitor_budget.specs.Allotting.{allotted}

@@ -1,11 +1,10 @@
 -- The formats of a set of a legal cell fit their sizes.
-use Rattle.std.proofs.Common.{◌≡◌, ℕ, ◌<◌, ◌≤◌, Bool, true, Option, Some, None, is_some, IsTrue, List, length, refl, sym, ◌∙◌, ap, subst}
+use Rattle.std.proofs.Common.{◌≡◌, ℕ, ◌<◌, Option, Some, IsTrue, length, refl, sym, ◌∙◌, subst}
 use Rattle.rrc_settings.specs.declared.settings.RawCell.{RawCell}
 use Rattle.rrc_settings.specs.declared.settings.Handset.{Handset}
 use Rattle.rrc_settings.specs.declared.settings.SetKind.{SetKind}
 use Rattle.rrc_settings.specs.declared.settings.SetKind.TheVariants as kinds
 use Rattle.rrc_settings.specs.Legal.{IsLegal}
-use Rattle.rrc_settings.specs.Conflicts.{is_specific}
 use Rattle.dci_fields.specs.declared.formats.Format.{Format}
 use Rattle.dci_fields.specs.declared.formats.Widths.{Widths}
 use Rattle.dci_fields.specs.declared.sizes.Sizes.{Sizes}

@@ -1,6 +1,5 @@
 -- Each watch of the sets of a legal cell is sound and inside the slot and the carrier, and those of one set are alike.
-use Rattle.std.proofs.Common.{◌≡◌, ℕ, zero, suc, ◌+◌, ◌*◌, ◌%◌, ◌^◌, ◌<◌, ◌≤◌, ◌⊎◌, inl, inr, Bool, true, false, ◌&&◌, ◌==◌, cond, min, max, Option, Some, None, is_some, unwrap_or, IfSome, IsTrue, List, [], ◌∷◌, map, length, All, get_or, refl, sym, ◌∙◌, ap, subst, arith}
-use Rattle.std.specs.List.{flat_map}
+use Rattle.std.proofs.Common.{◌≡◌, ℕ, ◌+◌, ◌*◌, ◌^◌, ◌<◌, ◌≤◌, ◌⊎◌, inl, inr, Bool, true, false, ◌&&◌, ◌==◌, cond, min, max, Option, Some, None, is_some, unwrap_or, IfSome, List, [], ◌∷◌, length, All, get_or, refl, sym, ◌∙◌, ap, subst, arith}
 use Rattle.std.specs.Option.{option_to_list}
 use Rattle.std.proofs.Math.Nat.{mod-lt}
 use Rattle.std.proofs.lemmas.Bool.{eqb-true, cases_order}
@@ -15,28 +14,25 @@ use Rattle.dci_fields.specs.declared.formats.Format.{Format}
 use Rattle.dci_fields.specs.declared.formats.Format.TheVariants.{F00, F10, Order, F01, F11}
 use Rattle.dci_fields.specs.declared.rows.FieldRow.{FieldRow}
 use Rattle.dci_fields.specs.declared.sizes.Sizes.{Sizes}
-use Rattle.dci_fields.specs.FieldLists.{width_of}
+use Rattle.dci_fields.specs.FieldLists.{width_of, IsFieldList}
 use Rattle.dci_fields.specs.FormatRows.{rows_of}
 use Rattle.dci_fields.specs.FittedRows.{fitted, order_of}
 use Rattle.dci_fields.specs.Alignment.{sizes_of}
-use Rattle.coreset_map.specs.ControlResources.{Resources, cce_count, AreBelow, AreResources}
-use Rattle.coreset_map.specs.Candidates.{candidate_regs}
-use Rattle.coreset_map.specs.RegOrder.{reg_at, AreRegs, AreWithin}
+use Rattle.coreset_map.specs.ControlResources.{AreBelow, AreResources}
 use Rattle.rrc_settings.specs.HandsetsOfCell.{handset_at}
-use Rattle.coreset_map.specs.ResourcesOfCell.{coreset_at, resources_in, resources_of}
+use Rattle.coreset_map.specs.ResourcesOfCell.{resources_in}
 use Rattle.coreset_map.proofs.Members.{IsIn, in-map, in-flat_map, at-in}
 use Rattle.coreset_map.proofs.CandidateRegs.{length-candidate, candidate-order, candidate-within}
-use Rattle.coreset_map.proofs.LegalResources.{IsLegalSet, legal-resources}
+use Rattle.coreset_map.proofs.LegalResources.{legal-resources}
 use Rattle.monitor_budget.specs.declared.candidates.Candidate.{Candidate}
 use Rattle.monitor_budget.specs.SetCandidates.{IsPlaced, sizes_in, rising, rising_sizes}
 use Rattle.monitor_budget.specs.Scrambling.{sequence_start, own_start, scrambling_start}
-use Rattle.monitor_budget.specs.Counts.{set_at, coreset_of, cces_under, candidates_of, scrambling_of}
-use Rattle.monitor_budget.proofs.LegalSearchSets.{IsLegalSearchSet, legal-set, number-once, coreset-there, are-asked}
-use Rattle.monitor_budget.proofs.Placed.{IsOf, in-set, is-placed}
+use Rattle.monitor_budget.specs.Counts.{set_at, coreset_of, cces_under, candidates_of}
+use Rattle.monitor_budget.proofs.LegalSearchSets.{legal-set, number-once, coreset-there, are-asked}
+use Rattle.monitor_budget.proofs.Placed.{in-set, is-placed}
 use Rattle.monitor_plan.specs.declared.watch.Watch.{Watch}
 use Rattle.monitor_plan.specs.Watch.{is_for_fallback, fits, list_of, HasRoomForOrder, IsSound, IsInside, watch_at, no_watch, AreAlike}
-use Rattle.monitor_plan.specs.Watches.{up_format, down_format, up_size, down_size, widths_in, list_at, up_list, down_list, watch_of, set_watches, watches_of}
-use Rattle.monitor_plan.proofs.FittingSizes.{Fit, Fits, SetFit}
+use Rattle.monitor_plan.specs.Watches.{up_format, down_format, up_size, down_size, widths_in, list_at, watch_of, set_watches, watches_of}
 use Rattle.monitor_plan.proofs.SetFits.{legal-fit}
 
 -- a size that a set monitors is that of one of its formats
@@ -86,21 +82,13 @@ size-known sizes kinds.Common size i = inl (size_in_option sizes.common size i)
 size-known sizes kinds.Fallback size i = inl (size_in_option sizes.fallback size i)
 size-known sizes kinds.Specific size i = size_in_rising sizes.up sizes.down size i
 
--- a list at a size is fitted to it
-list-within : (own : Option ℕ) (rows : List FieldRow) (size : ℕ) → Fits own rows → IfSome (list_at own rows size) (λ (xs : List FieldRow). width_of xs ≤ size)
-list-within None rows size f = tt
-list-within (Some n) rows size f = by (n == size) refl
+-- what holds of a list that is fitted to a size holds of the list at the size
+fitted-holds : (P : List FieldRow → Type 0) (own : Option ℕ) (rows : List FieldRow) (size : ℕ) → (own ≡ Some size → P (fitted rows size))
+    → IfSome (list_at own rows size) P
+fitted-holds P None rows size f = tt
+fitted-holds P (Some n) rows size f = by (n == size) refl
   where
-    by : (b : Bool) → (n == size) ≡ b → IfSome (cond b (Some (fitted rows size)) None) (λ (xs : List FieldRow). width_of xs ≤ size)
-    by true e = (f size (ap (λ (k : ℕ). Some k) (eqb-true n size e))).within
-    by false e = tt
-
-list-room : (own : Option ℕ) (rows : List FieldRow) (size : ℕ) → (own ≡ Some size → HasRoomForOrder size (fitted rows size))
-    → IfSome (list_at own rows size) (HasRoomForOrder size)
-list-room None rows size f = tt
-list-room (Some n) rows size f = by (n == size) refl
-  where
-    by : (b : Bool) → (n == size) ≡ b → IfSome (cond b (Some (fitted rows size)) None) (HasRoomForOrder size)
+    by : (b : Bool) → (n == size) ≡ b → IfSome (cond b (Some (fitted rows size)) None) P
     by true e = f (ap (λ (k : ℕ). Some k) (eqb-true n size e))
     by false e = tt
 
@@ -152,6 +140,8 @@ sound-watch cell handset set c h l m i =
     let (a, b) = set-resources cell handset set h l m in
     let p = candidate-placed cell handset set sizes c h l m i in
     let f = legal-fit cell handset set h l m in
+    let up = rows_of cell hs (up_format s.kind) (widths_in sizes s.kind) in
+    let down = rows_of cell hs (down_format s.kind) (widths_in sizes s.kind) in
     let o = in-set (cces_under cell hs s) (sizes_in sizes s.kind) s c i in
     let known : IsIn c.size (sizes_in sizes s.kind) = subst (λ n. IsIn n (sizes_in sizes s.kind)) (sym (ap (λ (x : Candidate). x.size) o.is)) o.sized in
     let bounds : (23 ≤ c.size) × (c.size ≤ 84) = elim (size-known sizes s.kind c.size known) as (λ _. (23 ≤ c.size) × (c.size ≤ 84)) [
@@ -164,10 +154,12 @@ sound-watch cell handset set c h l m i =
       order = candidate-order r c.start c.level a;
       least = bounds.0;
       most = bounds.1;
-      up = list-within (up_size sizes s.kind) (rows_of cell hs (up_format s.kind) (widths_in sizes s.kind)) c.size f.up;
-      down = list-within (down_size sizes s.kind) (rows_of cell hs (down_format s.kind) (widths_in sizes s.kind)) c.size f.down;
+      up = fitted-holds (λ xs. width_of xs ≤ c.size) (up_size sizes s.kind) up c.size (λ e. (f.up c.size e).within);
+      down = fitted-holds (λ xs. width_of xs ≤ c.size) (down_size sizes s.kind) down c.size (λ e. (f.down c.size e).within);
+      up_list = fitted-holds IsFieldList (up_size sizes s.kind) up c.size (λ e. (f.up c.size e).list);
+      down_list = fitted-holds IsFieldList (down_size sizes s.kind) down c.size (λ e. (f.down c.size e).list);
       scramble = scrambling-below s.kind cell.cell hs.rnti (coreset_of hs s).dmrs_id;
-      fallback = λ t. list-room (down_size sizes s.kind) (rows_of cell hs (down_format s.kind) (widths_in sizes s.kind)) c.size (f.room t c.size);
+      fallback = λ t. fitted-holds (HasRoomForOrder c.size) (down_size sizes s.kind) down c.size (f.room t c.size);
     }
 
 pub inside-watch : (cell : RawCell) (handset set : ℕ) (sizes : Sizes) (c : Candidate) → IsLegal cell → handset < length cell.handsets → set < length (handset_at cell handset).sets.items

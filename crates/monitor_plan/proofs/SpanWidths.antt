@@ -1,9 +1,8 @@
 -- Bounds of the widths of the frequency assignments of a legal cell.
-use Rattle.std.proofs.Common.{◌≡◌, ℕ, zero, suc, ◌+◌, ◌-◌, ◌*◌, ◌/◌, ◌%◌, ◌^◌, ◌<◌, ◌≤◌, ◌⊎◌, inl, inr, Bool, true, false, cond, nat_eq, nat_le, max, Option, Some, None, unwrap_or, IfSome, refl, sym, ◌∙◌, ap, subst, arith}
+use Rattle.std.proofs.Common.{◌≡◌, ℕ, ◌+◌, ◌-◌, ◌*◌, ◌/◌, ◌%◌, ◌^◌, ◌<◌, ◌≤◌, Bool, true, false, cond, nat_eq, nat_le, max, Option, Some, None, unwrap_or, IfSome, refl, arith}
 use Rattle.std.proofs.Math.Nat.{mul-le-mul}
 use Rattle.std.proofs.lemmas.Nat.{le-div}
-use Rattle.std.proofs.lemmas.Bool.{leb-true, leb-false}
-use Rattle.alloc_fields.specs.Widths.{bits_for}
+use Rattle.std.proofs.lemmas.Bool.{leb-false}
 use Rattle.alloc_fields.specs.Groups.{group_size, group_count}
 use Rattle.alloc_fields.proofs.LeastBits.{bits_for-le, bits_for-more}
 use Rattle.alloc_fields.proofs.GroupCounts.{group_count-le}

@@ -1,14 +1,14 @@
 -- A watch of a handset: the formats that fit it, their fields, and what each watch of a plan keeps.
-use Rattle.std.specs.Prelude.{◌≡◌, ℕ, ◌+◌, ◌*◌, ◌^◌, ◌<◌, ◌≤◌, Bool, true, false, ◌&&◌, List, [], ◌∷◌, Option, Some, None, is_some, unwrap_or, length, IfSome, IsTrue, All, slice_index_or}
+use Rattle.std.specs.Prelude.{◌≡◌, ℕ, ◌+◌, ◌*◌, ◌^◌, ◌<◌, ◌≤◌, Bool, true, false, ◌&&◌, List, [], ◌∷◌, None, is_some, unwrap_or, length, IfSome, IsTrue, All, slice_index_or}
 use Rattle.rrc_settings.specs.declared.settings.SetKind.{SetKind}
 use Rattle.rrc_settings.specs.declared.settings.SetKind.TheVariants as kinds
-use Rattle.rrc_settings.specs.Table.{is_one_of}
+use Rattle.rrc_settings.specs.AggregationLevels.{is_level}
 use Rattle.rrc_settings.specs.Conflicts.{is_specific}
 use Rattle.dci_fields.specs.declared.formats.Format.{Format}
 use Rattle.dci_fields.specs.declared.formats.Format.TheVariants.{F00, F10, Order, F01, F11}
 use Rattle.dci_fields.specs.declared.names.FieldName.TheVariants as names
 use Rattle.dci_fields.specs.declared.rows.FieldRow.{FieldRow}
-use Rattle.dci_fields.specs.FieldLists.{width_of}
+use Rattle.dci_fields.specs.FieldLists.{width_of, IsFieldList}
 use Rattle.dci_fields.specs.FittedRows.{order_of}
 use Rattle.coreset_map.specs.RegOrder.{reg_at, AreRegs}
 use Rattle.monitor_plan.specs.declared.watch.Watch.{Watch}
@@ -44,13 +44,15 @@ HasRoomForOrder size (first ∷ second ∷ rest) =
 
 -- what each watch of a plan keeps
 pub record IsSound (w : Watch) : Type 0 where
-  pub level : is_one_of (1 ∷ 2 ∷ 4 ∷ 8 ∷ 16 ∷ []) w.level ≡ true
+  pub level : is_level w.level ≡ true
   pub count : length w.regs.items ≡ 6 * w.level
   pub order : AreRegs w.regs.items
   pub least : 23 ≤ w.size
   pub most : w.size ≤ 84
   pub up : IfSome w.up (λ rows. width_of rows ≤ w.size)
   pub down : IfSome w.down (λ rows. width_of rows ≤ w.size)
+  pub up_list : IfSome w.up IsFieldList
+  pub down_list : IfSome w.down IsFieldList
   pub scramble : w.scramble < 2 ^ 31
   pub fallback : is_for_fallback w.kind ≡ true → IfSome w.down (HasRoomForOrder w.size)
 

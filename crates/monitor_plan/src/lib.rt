@@ -10,6 +10,3 @@ mod watch;
 
 pub use plan::{Plan, PlanFault};
 pub use watch::Watch;
-
-#[cfg(test)]
-mod tests;

@@ -17,6 +17,3 @@ pub use memory_sink::MemorySink;
 pub use shelves::Shelf;
 pub use sinks::{Sink, put_all};
 pub use std_sink::StdSink;
-
-#[cfg(test)]
-mod tests;

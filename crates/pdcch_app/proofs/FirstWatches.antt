@@ -1,10 +1,11 @@
 -- The one watch of a first cell: that of its handset's plan.
 use Rattle.std.proofs.Common.{◌≡◌, ℕ, true, List, [], ◌∷◌, Some, Result, Ok, Err, length, ap, sym, ◌∙◌}
+use Rattle.dci_fields.specs.declared.formats.Format.TheVariants.{F10}
 use Rattle.dci_fields.specs.FormatRows.{rows_10}
 use Rattle.monitor_budget.specs.declared.allotment.CommonOver.{CommonOver}
 use Rattle.monitor_plan.specs.declared.watch.Watch.{Watch}
 use Rattle.monitor_plan.specs.Planned.{over_by, planned}
-use Rattle.monitor_plan.specs.Watch.{watch_at}
+use Rattle.monitor_plan.specs.Watch.{fits, list_of, watch_at}
 use Rattle.rrc_settings.specs.declared.settings.RawCell.{RawCell}
 use Rattle.rrc_settings.specs.Equality.{decides_raw_cell}
 use Rattle.pdcch_app.specs.FirstCells.{first_settings, is_first, numbers_of, IsFirst}
@@ -44,11 +45,11 @@ known : (settings : RawCell) → IsFirst settings → first_watch settings ≡ k
 unfolding first_watch
 known settings h = ap first_of (known_plan settings h)
 
-pub first_down : (settings : RawCell) (w : Watch) → IsFirst settings → w ≡ first_watch settings → w.down ≡ Some (rows_10 11)
-first_down settings w h e = ap (λ (x : Watch). x.down) (e ∙ known settings h)
+pub first_fits : (settings : RawCell) (w : Watch) → IsFirst settings → w ≡ first_watch settings → fits w F10 ≡ true
+first_fits settings w h e = ap (λ (x : Watch). fits x F10) (e ∙ known settings h)
 
-pub first_length : (settings : RawCell) (w : Watch) → IsFirst settings → w ≡ first_watch settings → w.size ≡ 39
-first_length settings w h e = ap (λ (x : Watch). x.size) (e ∙ known settings h)
+pub first_rows : (settings : RawCell) (w : Watch) → IsFirst settings → w ≡ first_watch settings → list_of w F10 ≡ rows_10 11
+first_rows settings w h e = ap (λ (x : Watch). list_of x F10) (e ∙ known settings h)
 
 -- so the plan has that watch and no other
 pub plans_one_watch : PlansOneWatch

@@ -73,21 +73,3 @@ no_fault grant rows given fault h r g k =
     let P : List FieldRow → Type 0 = λ x. IsFieldFault x F10 given fault in
     let Q : List Given → Type 0 = λ x. IsFieldFault (rows_10 11) F10 x fault in
     no_fault_in grant h fault (subst Q g (subst P r k))
-
--- what is packed is the payload at the watch
-pub packed_is : (w : Watch) (grant : FirstGrant) (rows : List FieldRow) (given : List Given) (size : ℕ) (payload : List Bool) → w.down ≡ Some rows
-    → given ≡ given_by grant → size ≡ w.size → IsPayloadOf rows F10 given size payload → payload ≡ payload_at w grant
-unfolding payload_at
-packed_is w grant rows given size payload d g s k =
-    let same : rows ≡ list_of w F10 = sym (ap (λ list. unwrap_or list []) d) in
-    let P : List Given → Type 0 = λ x. payload_of rows F10 (settled rows F10 x) size ≡ Some payload in
-    let Q : ℕ → Type 0 = λ n. payload_of rows F10 (settled rows F10 (given_by grant)) n ≡ Some payload in
-    let R : List FieldRow → Type 0 = λ x. payload_of x F10 (settled x F10 (given_by grant)) w.size ≡ Some payload in
-    sym (ap (λ p. unwrap_or p []) (subst R same (subst Q s (subst P g k.packs))))
-
--- eight values are those of a first grant
-pub list_is : (grant : FirstGrant) (a b c d e f g h : Given) → a ≡ given_for names.Fdra grant.fdra → b ≡ given_for names.Harq grant.harq
-    → c ≡ given_for names.Mcs grant.mcs → d ≡ given_for names.Ndi grant.ndi → e ≡ given_for names.Pucch grant.pucch
-    → f ≡ given_for names.Tdra grant.tdra → g ≡ given_for names.Timing grant.timing → h ≡ given_for names.Tpc grant.tpc
-    → a ∷ b ∷ c ∷ d ∷ e ∷ f ∷ g ∷ h ∷ [] ≡ given_by grant
-list_is grant a b c d e f g h pa pb pc pd pe pf pg ph = rw (pa, pb, pc, pd, pe, pf, pg, ph) refl

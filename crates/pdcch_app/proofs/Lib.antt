@@ -3,11 +3,6 @@ pub mod Working
 pub mod Completing
 pub mod Writings
 pub mod RunPromises
-pub mod Scrambles
-pub mod FieldValues
-pub mod WatchLists
-pub mod Hearings
-pub mod CodableBlocks
 pub mod FirstPlans
 pub mod FirstWatches
 pub mod GrantPayloads

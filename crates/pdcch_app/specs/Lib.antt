@@ -9,14 +9,7 @@ pub mod Written
 pub mod Outcomes
 pub mod Steps
 pub mod Ran
-pub mod Scrambling
-pub mod BlockImage
 pub mod Promises
 pub mod FirstGrid
-pub mod Spelling
-pub mod Entry
 pub mod Report
-pub mod Hearing
-pub mod AllValues
-pub mod Watches
 pub mod Granted

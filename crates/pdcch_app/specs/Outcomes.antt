@@ -1,5 +1,5 @@
 -- The outcome of each command, step by step in the order of the work.
-use Rattle.std.specs.Prelude.{ℕ, List, [], Option, Some, None, Result, Ok, String, true, codes, option_map}
+use Rattle.std.specs.Prelude.{ℕ, List, [], Option, Some, None, Result, Ok, String, true, codes}
 use Rattle.std.specs.declared.alloc.Global.{Global}
 use Rattle.slot_grid.specs.Grid.{GridValue}
 use Rattle.table_files.specs.declared.tables.Tables.{Tables}
@@ -11,9 +11,8 @@ use Rattle.pdcch_app.specs.declared.first_grant.FirstGrant.{FirstGrant}
 use Rattle.pdcch_app.specs.Outcome.{Outcome, Refusal, Printed, Fetched, refused, ended, reading}
 use Rattle.pdcch_app.specs.Words.{legal, file}
 use Rattle.pdcch_app.specs.FirstForms.{settings_of, reliability_of, input_order_of, grant_of, grid_of}
-use Rattle.pdcch_app.specs.Entry.{entry_of}
+use Rattle.dci_codec.specs.Hearing.{heard_at}
 use Rattle.pdcch_app.specs.Report.{report}
-use Rattle.pdcch_app.specs.Spelling.{spelled}
 use Rattle.pdcch_app.specs.Written.{grid_of_grant, first_watch}
 use Rattle.grid_file.specs.GridText.{grid_text}
 
@@ -33,7 +32,7 @@ written cell tables grant = Ok (record { whole = true; out = grid_text (grid_of_
 abbrev pub searched : RawCell → Tables → GridValue → Result Printed Refusal
 searched cell tables grid = Ok (record {
   whole = true;
-  out = report grid (codes "alpha") (first_watch cell) (option_map (entry_of (first_watch cell)) (spelled tables grid (first_watch cell)));
+  out = report grid (codes "alpha") (first_watch cell) (heard_at tables grid (first_watch cell) 0);
   err = [];
 })
 

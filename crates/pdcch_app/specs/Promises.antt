@@ -1,5 +1,5 @@
 -- What every run promises, as sentences over what a run leaves.
-use Rattle.std.specs.Prelude.{◌≡◌, ◌<◌, ◌≤◌, ◌⊎◌, ℕ, true, false, List, [], ◌∷◌, Option, Some, None, Ok, String, length, codes, option_map}
+use Rattle.std.specs.Prelude.{◌≡◌, ◌<◌, ◌≤◌, ◌⊎◌, ℕ, true, false, List, [], ◌∷◌, Option, Some, None, Ok, String, length, codes}
 use Rattle.std.specs.declared.alloc.Global.{Global}
 use Rattle.settings_json.specs.First.{first_fault_in, raw_in}
 use Rattle.table_files.specs.TableText.{read_table}
@@ -9,7 +9,7 @@ use Rattle.pdcch_app.specs.declared.status.Status.TheVariants as ends
 use Rattle.pdcch_app.specs.declared.words.Command.TheVariants.{Write, Search}
 use Rattle.pdcch_app.specs.declared.first_grant.FirstGrant.{FirstGrant}
 use Rattle.slot_grid.specs.Grid.{GridValue}
-use Rattle.pdcch_app.specs.Entry.{entry_of}
+use Rattle.dci_codec.specs.Hearing.{heard_at}
 use Rattle.pdcch_app.specs.FirstCells.{is_first}
 use Rattle.grid_file.specs.FoundGrid.{reading_of}
 use Rattle.grid_file.specs.GridText.{grid_text}
@@ -20,7 +20,6 @@ use Rattle.pdcch_app.specs.Outcome.{given_of, limit, is_done}
 use Rattle.pdcch_app.specs.Outcomes.{outcome}
 use Rattle.pdcch_app.specs.Ran.{Ran}
 use Rattle.pdcch_app.specs.Report.{report}
-use Rattle.pdcch_app.specs.Spelling.{spelled}
 use Rattle.pdcch_app.specs.Words.{legal}
 use Rattle.pdcch_app.specs.Written.{grid_of_grant, first_watch}
 
@@ -67,6 +66,6 @@ SearchesFirstCells = (words : List (String Global)) (settings reliability input_
     → outcome words (given_of settings ∷ given_of reliability ∷ given_of input_order ∷ given_of grid ∷ [])
     ≡ record {
       status = ends.Done;
-      out = report points (codes "alpha") (first_watch (raw_in settings)) (option_map (entry_of (first_watch (raw_in settings))) (spelled tables points (first_watch (raw_in settings))));
+      out = report points (codes "alpha") (first_watch (raw_in settings)) (heard_at tables points (first_watch (raw_in settings)) 0);
       err = [];
     }

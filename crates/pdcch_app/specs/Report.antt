@@ -7,7 +7,7 @@ use Rattle.dci_fields.specs.declared.formats.Format.{Format}
 use Rattle.dci_fields.specs.declared.values.FieldValue.{FieldValue}
 use Rattle.dci_fields.specs.Formats.{format_word}
 use Rattle.dci_fields.specs.Words.{word_of}
-use Rattle.pdcch_app.specs.Entry.{Entry}
+use Rattle.dci_codec.specs.declared.heard.Heard.{Heard}
 use Rattle.monitor_plan.specs.declared.watch.Watch.{Watch}
 
 -- the slot of the grid
@@ -37,10 +37,10 @@ heard_line watch format fields =
     codes "set " ++ decimal watch.set ++ codes " symbol " ++ decimal watch.symbol ++ codes " level " ++ decimal watch.level ++ codes " candidate " ++ decimal watch.candidate ++ codes " size " ++ decimal watch.size ++ codes " rnti " ++ hex_word watch.rnti ++ 32 ∷ [] ++ format_word format ++ flat_map field_text fields ++ 10 ∷ []
 
 -- the lines of a handset with one watch
-abbrev pub handset_report : List ℕ → Watch → Option Entry → List ℕ
+abbrev pub handset_report : List ℕ → Watch → Option Heard → List ℕ
 handset_report name watch None = handset_line name 1 0
-handset_report name watch (Some entry) = handset_line name 1 1 ++ heard_line watch entry.format entry.fields
+handset_report name watch (Some heard) = handset_line name 1 1 ++ heard_line watch heard.format heard.values
 
 -- the report of a slot with one handset that has one watch
-unfoldable pub report : GridValue → List ℕ → Watch → Option Entry → List ℕ
-report grid name watch entry = slot_line grid.frame grid.slot ++ handset_report name watch entry
+unfoldable pub report : GridValue → List ℕ → Watch → Option Heard → List ℕ
+report grid name watch heard = slot_line grid.frame grid.slot ++ handset_report name watch heard

@@ -16,7 +16,7 @@ use Rattle.slot_grid.specs.Grid.{GridValue}
 use Rattle.slot_grid.specs.Image.{overwritten, blank_grid}
 use Rattle.table_files.specs.declared.tables.Tables.{Tables}
 use Rattle.pdcch_app.specs.declared.first_grant.FirstGrant.{FirstGrant}
-use Rattle.pdcch_app.specs.BlockImage.{block_image}
+use Rattle.dci_codec.specs.BlockImage.{block_image}
 use Rattle.pdcch_app.specs.FirstCells.{is_first}
 
 -- the first watch of a plan, and a watch of nothing where there is no plan

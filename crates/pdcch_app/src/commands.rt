@@ -10,12 +10,12 @@ ghost use Rattle.pdcch_app.specs.Steps.{Work, Ends};
 use crate::answer::Answer;
 use crate::files::{grant_at, grid_at, input_order_at, reliability_at, settings_at};
 use crate::first_grant::FirstGrant;
-use crate::hearing::hear;
 use crate::report_text::report_text;
 use crate::status::Status;
 use crate::stop::Stop;
 use crate::watch::{first_plan, first_watch};
 use crate::written::grid_of_grant;
+use dci_codec::hear;
 use grid_file::write_grid;
 use outside::Shelf;
 use rrc_settings::Cell;
@@ -73,7 +73,7 @@ fn search_text(alloc: Global, cell: &Cell, tables: &Tables, grid: &Grid) -> Resu
 {
     let plan = first_plan(alloc, cell)?;
     let watch = first_watch(&plan);
-    let heard = hear(tables, grid, watch);
+    let heard = hear(tables, watch, 0, grid).ok();
     let text = report_text(alloc, grid, watch, &heard)?;
     Ok(Answer::new(Status::Done, text, Vec::new(alloc)))
 }

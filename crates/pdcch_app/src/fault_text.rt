@@ -1,11 +1,10 @@
 //! The lines that say what is wrong with the settings, a table, the grants or a grid.
 ghost use Rattle.std.specs.Prelude.{◌≡◌, ◌++◌, IfOk, OnOk};
 ghost use Rattle.std.specs.List.{flat_map};
-ghost use Rattle.std.specs.Fmt.{decimal};
 ghost use Rattle.pdcch_app.specs.FaultText.{reason_text, step_text, further, place_text, settings_line, table_fault_text, table_line, grant_place_text, grants_line, grid_place_line, grid_number_line};
 
-use crate::decimal_text::push_number;
 use grant_file::{GrantFault, GrantKey, GrantPlace};
+use grid_file::push_number;
 use rrc_settings::{Reason, SettingsFault, Step};
 use std::alloc::{AllocError, Global};
 use table_files::TableFault;
@@ -30,7 +29,7 @@ fn push_step(alloc: Global, text: &mut Vec<u8>, step: &Step) -> Result<(), Alloc
 {
     match step {
         Step::Key(key) => text.extend_from_slice(key.word()),
-        Step::Index(index) => push_number(alloc, text, *index),
+        Step::Index(index) => push_number(alloc, text, u64::from(*index)),
     }
 }
 
@@ -78,14 +77,6 @@ pub fn settings_line(alloc: Global, fault: &SettingsFault) -> Result<Vec<u8>, Al
     Ok(text)
 }
 
-/// Appends a byte place in decimal digits.
-fn push_byte_place(alloc: Global, text: &mut Vec<u8>, at: usize) -> Result<(), AllocError>
-    ensures { OnOk result (text.new.items ≡ text.old.items ++ decimal at) }
-{
-    let digits = format!(in alloc; "{at}")?;
-    text.extend_from_slice(digits.as_bytes())
-}
-
 /// Appends what is wrong with a table.
 fn push_table_fault(alloc: Global, text: &mut Vec<u8>, fault: TableFault) -> Result<(), AllocError>
     ensures { OnOk result (text.new.items ≡ text.old.items ++ table_fault_text fault) }
@@ -93,22 +84,22 @@ fn push_table_fault(alloc: Global, text: &mut Vec<u8>, fault: TableFault) -> Res
     match fault {
         TableFault::BadByte { at } => {
             text.extend_from_slice(b"bad byte at ")?;
-            push_byte_place(alloc, text, at)
+            push_number(alloc, text, at as u64)
         }
         TableFault::TooLarge { at, value } => {
             text.extend_from_slice(b"value ")?;
-            push_number(alloc, text, value)?;
+            push_number(alloc, text, u64::from(value))?;
             text.extend_from_slice(b" at ")?;
-            push_byte_place(alloc, text, at)?;
+            push_number(alloc, text, at as u64)?;
             text.extend_from_slice(b" too large")
         }
         TableFault::Repeated { value } => {
             text.extend_from_slice(b"value ")?;
-            push_number(alloc, text, value)?;
+            push_number(alloc, text, u64::from(value))?;
             text.extend_from_slice(b" repeated")
         }
         TableFault::Count { found } => {
-            push_number(alloc, text, found)?;
+            push_number(alloc, text, u64::from(found))?;
             text.extend_from_slice(b" values")
         }
     }
@@ -133,7 +124,7 @@ fn push_grant_place(alloc: Global, text: &mut Vec<u8>, place: &GrantPlace) -> Re
         (None, key) => text.extend_from_slice(key.word()),
         (Some(grant), key) => {
             text.extend_from_slice(b"grants/")?;
-            push_number(alloc, text, grant)?;
+            push_number(alloc, text, u64::from(grant))?;
             if key == GrantKey::Whole {
                 return Ok(());
             }
@@ -161,7 +152,7 @@ pub fn grid_place_line(alloc: Global, at: usize) -> Result<Vec<u8>, AllocError>
     ensures { IfOk result (λ text. text.items ≡ grid_place_line at) }
 {
     let mut text = Vec::from_slice(alloc, b"error: grid: byte ")?;
-    push_byte_place(alloc, &mut text, at)?;
+    push_number(alloc, &mut text, at as u64)?;
     Ok(text)
 }
 
@@ -178,8 +169,8 @@ pub fn grid_number_line(
     let mut text = Vec::from_slice(alloc, b"error: grid: ")?;
     text.extend_from_slice(word)?;
     text.push(b' ')?;
-    push_number(alloc, &mut text, grid)?;
+    push_number(alloc, &mut text, u64::from(grid))?;
     text.push(b' ')?;
-    push_number(alloc, &mut text, settings)?;
+    push_number(alloc, &mut text, u64::from(settings))?;
     Ok(text)
 }

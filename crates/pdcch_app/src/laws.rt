@@ -1,6 +1,5 @@
 //! What every run promises: laws over the definitions that the contract of `run` names, as the contracts of
 //! functions with nothing to do.
-ghost use Rattle.pdcch_app.specs.Hearing.{FindsWhatIsSpelled};
 ghost use Rattle.pdcch_app.specs.Promises.{EndsAsReadFault, EndsAsWriteFault, RefusesSilently, RefusesWords, WritesFirstCells, SearchesFirstCells};
 ghost use Rattle.pdcch_app.specs.Written.{PlansOneWatch};
 
@@ -38,9 +37,4 @@ pub fn searches_first_cells()
 /// The plan of a first cell has one watch.
 pub fn plans_one_watch()
     ensures { PlansOneWatch }
-{}
-
-/// What is found among all spellings is exactly what the grid spells, so it spells at most one.
-pub fn finds_what_is_spelled()
-    ensures { FindsWhatIsSpelled }
 {}

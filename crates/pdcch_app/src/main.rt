@@ -2,18 +2,13 @@
 #![tactic(auto)]
 
 mod answer;
-mod coding;
 mod commands;
-mod decimal_text;
 mod fault_text;
 mod files;
 mod first_cell;
 mod first_grant;
-mod heard;
-mod hearing;
 pub mod laws;
 mod report_text;
-mod scrambling;
 mod status;
 mod stop;
 mod take;

@@ -1,11 +1,12 @@
 //! The text of a report: what the handset of the first settings heard in a slot.
 ghost use Rattle.std.specs.Prelude.{◌≡◌, ◌++◌, ◌<◌, IfOk, OnOk, codes};
 ghost use Rattle.std.specs.List.{flat_map};
+ghost use Rattle.dci_fields.specs.Formats.{format_word};
 ghost use Rattle.pdcch_app.specs.Report.{slot_line, handset_line, hex_digit, hex_word, field_text, heard_line, report};
 
-use crate::decimal_text::push_number;
-use crate::heard::Heard;
+use dci_codec::Heard;
 use dci_fields::FieldValue;
+use grid_file::push_number;
 use monitor_plan::Watch;
 use slot_grid::Grid;
 use std::alloc::{AllocError, Global};
@@ -19,9 +20,9 @@ fn slot_line(alloc: Global, frame: u16, slot: u16) -> Result<Vec<u8>, AllocError
     ensures { IfOk result (λ text. text.items ≡ slot_line frame slot) }
 {
     let mut text = Vec::from_slice(alloc, b"frame ")?;
-    push_number(alloc, &mut text, frame)?;
+    push_number(alloc, &mut text, u64::from(frame))?;
     text.extend_from_slice(b" slot ")?;
-    push_number(alloc, &mut text, slot)?;
+    push_number(alloc, &mut text, u64::from(slot))?;
     text.push(b'\n')?;
     Ok(text)
 }
@@ -40,9 +41,9 @@ fn push_handset(
     text.extend_from_slice(b"handset ")?;
     text.extend_from_slice(name)?;
     text.extend_from_slice(b" watches ")?;
-    push_number(alloc, text, watches)?;
+    push_number(alloc, text, u64::from(watches))?;
     text.extend_from_slice(b" heard ")?;
-    push_number(alloc, text, heard)?;
+    push_number(alloc, text, u64::from(heard))?;
     text.push(b'\n')?;
     Ok(())
 }
@@ -80,9 +81,7 @@ fn push_field(alloc: Global, text: &mut Vec<u8>, field: &FieldValue) -> Result<(
     text.push(b' ')?;
     text.extend_from_slice(field.name.word())?;
     text.push(b'=')?;
-    let value = field.value;
-    let digits = format!(in alloc; "{value}")?;
-    text.extend_from_slice(digits.as_bytes())
+    push_number(alloc, text, u64::from(field.value))
 }
 
 /// Appends the fields in order.
@@ -95,26 +94,33 @@ fn push_fields(alloc: Global, text: &mut Vec<u8>, fields: &[FieldValue]) -> Resu
     Ok(())
 }
 
+/// Appends a format that was heard, with its shown fields in order.
+fn push_entry(alloc: Global, text: &mut Vec<u8>, heard: &Heard) -> Result<(), AllocError>
+    ensures { OnOk result (text.new.items ≡ text.old.items ++ format_word heard.now.format ++ flat_map field_text heard.now.values) }
+{
+    text.extend_from_slice(heard.format.word())?;
+    push_fields(alloc, text, heard.values.entries())
+}
+
 /// The line of what was heard at a watch.
 #[tactic(auto, unfolding(crate::specs::Report::heard_line))]
 fn heard_line(alloc: Global, watch: &Watch, heard: &Heard) -> Result<Vec<u8>, AllocError>
-    ensures { IfOk result (λ text. text.items ≡ heard_line watch.now heard.now.format heard.now.fields) }
+    ensures { IfOk result (λ text. text.items ≡ heard_line watch.now heard.now.format heard.now.values) }
 {
     let mut text = Vec::from_slice(alloc, b"set ")?;
-    push_number(alloc, &mut text, watch.set)?;
+    push_number(alloc, &mut text, u64::from(watch.set))?;
     text.extend_from_slice(b" symbol ")?;
-    push_number(alloc, &mut text, u16::from(watch.symbol))?;
+    push_number(alloc, &mut text, u64::from(watch.symbol))?;
     text.extend_from_slice(b" level ")?;
-    push_number(alloc, &mut text, u16::from(watch.level))?;
+    push_number(alloc, &mut text, u64::from(watch.level))?;
     text.extend_from_slice(b" candidate ")?;
-    push_number(alloc, &mut text, u16::from(watch.candidate))?;
+    push_number(alloc, &mut text, u64::from(watch.candidate))?;
     text.extend_from_slice(b" size ")?;
-    push_number(alloc, &mut text, watch.size)?;
+    push_number(alloc, &mut text, u64::from(watch.size))?;
     text.extend_from_slice(b" rnti ")?;
     push_hex_word(&mut text, watch.rnti)?;
     text.push(b' ')?;
-    text.extend_from_slice(heard.format().word())?;
-    push_fields(alloc, &mut text, heard.fields())?;
+    push_entry(alloc, &mut text, heard)?;
     text.push(b'\n')?;
     Ok(text)
 }

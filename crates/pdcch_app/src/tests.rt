@@ -5,7 +5,9 @@ use crate::status::Status;
 use crate::top::run;
 use outside::{MemoryShelf, MemorySink, NamedBytes};
 use std::alloc::{AllocError, Global};
+use std::process::Abort;
 use std::test::Fail;
+use std::thread::Threads;
 
 mod grids;
 mod outcomes;
@@ -100,10 +102,64 @@ fn files(
     Ok(objects)
 }
 
-fn words(alloc: Global, words: &[&str]) -> Result<Vec<String>, AllocError> {
+/// The words of a line, which stand with single spaces between.
+fn words(alloc: Global, line: &str) -> Result<Vec<String>, AllocError> {
     let mut list = Vec::new(alloc);
-    for word in words {
+    for word in line.split(' ') {
         list.push(String::from_str(alloc, word)?)?;
     }
     Ok(list)
+}
+
+/// A sink with much room that takes each text whole.
+fn sink(alloc: Global) -> Result<MemorySink, Fail> {
+    Ok(MemorySink::new(alloc, 1_048_576, 1_048_576, Vec::new(alloc))?)
+}
+
+/// What a run left.
+#[derive(Drop)]
+struct Ran {
+    status: Status,
+    out: MemorySink,
+    err: MemorySink,
+}
+
+/// Runs a line of words over a shelf into an output and an error output.
+fn run_into<R: Threads + Sync>(
+    rt: &R,
+    alloc: Global,
+    line: &str,
+    shelf: MemoryShelf,
+    sinks: (MemorySink, MemorySink),
+) -> Result<Ran, Fail> {
+    let list = words(alloc, line)?;
+    let mut shelf = shelf;
+    let (mut out, mut err) = sinks;
+    let status = run(rt, alloc, &list, &mut shelf, &mut out, &mut err);
+    Ok(Ran { status, out, err })
+}
+
+/// What a run is to end with, and its case in words.
+#[derive(Clone, Copy, Drop)]
+struct Want<'a> {
+    case: &'a str,
+    status: Status,
+    out: &'a str,
+    err: &'a str,
+}
+
+/// Runs a line of words over a shelf, and compares what it left.
+fn check<R: Threads + Sync + Abort>(
+    rt: &R,
+    alloc: Global,
+    line: &str,
+    shelf: MemoryShelf,
+    want: Want,
+) -> Result<(), Fail> {
+    let ran = run_into(rt, alloc, line, shelf, (sink(alloc)?, sink(alloc)?))?;
+    let case = want.case;
+    assert_eq!(rt; ran.status, want.status, "{line}: {case}");
+    assert_eq!(rt; ran.out.bytes(), want.out.as_bytes(), "{line}: {case}");
+    assert_eq!(rt; ran.err.bytes(), want.err.as_bytes(), "{line}: {case}");
+    Ok(())
 }

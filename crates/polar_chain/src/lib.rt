@@ -9,6 +9,3 @@ mod no_word;
 
 pub use code::Code;
 pub use no_word::NoWord;
-
-#[cfg(test)]
-mod tests;

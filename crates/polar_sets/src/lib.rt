@@ -9,6 +9,3 @@ mod position_set;
 pub use free_places::enough;
 pub use input::input_order;
 pub use position_set::{PositionSet, positions};
-
-#[cfg(test)]
-mod tests;

@@ -9,6 +9,3 @@ mod selection;
 pub use length::length_for;
 pub use order::{order_of, place_of};
 pub use selection::{Differs, select, unselect};
-
-#[cfg(test)]
-mod tests;

@@ -1,5 +1,5 @@
 -- What the settings of a handset may not say together (3GPP TS 38.211, 7.3.2.2; TS 38.213, 10.1; TS 38.331, 6.3.2).
-use Rattle.std.specs.Prelude.{ℕ, ◌+◌, ◌*◌, ◌/◌, ◌%◌, ◌^◌, Bool, true, false, not, ◌&&◌, ◌||◌, List, [], ◌∷◌, Option, is_none, option_map, unwrap_or, nat_eq, nat_lt, nat_le, bytes_eq, find, count_by, slice_index}
+use Rattle.std.specs.Prelude.{ℕ, ◌+◌, ◌*◌, ◌%◌, Bool, true, false, not, ◌&&◌, ◌||◌, List, [], ◌∷◌, Option, is_none, option_map, unwrap_or, nat_eq, nat_lt, nat_le, bytes_eq, find, count_by, slice_index}
 use Rattle.std.specs.List.{list_any, range_with_len}
 use Rattle.std.specs.Int.{bit_at}
 use Rattle.rrc_settings.specs.declared.words.Key.{Key}
@@ -17,12 +17,14 @@ use Rattle.rrc_settings.specs.declared.settings.UplinkFields.{UplinkFields}
 use Rattle.rrc_settings.specs.declared.settings.DownlinkFields.{DownlinkFields}
 use Rattle.rrc_settings.specs.declared.settings.Handset.{Handset}
 use Rattle.rrc_settings.specs.declared.settings.RawCell.{RawCell}
-use Rattle.rrc_settings.specs.Faults.{Steps, Finding, ◌▸◌, unless, first_of, each_after}
+use Rattle.rrc_settings.specs.Faults.{Steps, Finding, ◌▸◌, fault_at, unless, first_of, each_after}
 use Rattle.rrc_settings.specs.Table.{if_given}
+use Rattle.rrc_settings.specs.ControlGroups.{group_block, cces_in}
+use Rattle.rrc_settings.specs.AggregationLevels.{level_at}
 
 -- a conflict at a key where the test holds
 unfoldable pub conflict : Steps → Key → Bool → Finding
-conflict at key test = unless (at ▸ key) reasons.Conflict (not test)
+conflict at key test = unless (fault_at (at ▸ key) reasons.Conflict) (not test)
 
 -- whether bit i of a number is one
 abbrev pub has_bit : ℕ → ℕ → Bool
@@ -36,28 +38,24 @@ end_of bwp = bwp.start + bwp.size
 unfoldable pub group_count : ℕ → ℕ
 group_count groups = count_by (has_bit groups) (range_with_len 0 64)
 
--- how many CCEs a CORESET has: each is six REGs, a block in one symbol
+-- how many CCEs a CORESET has
 abbrev pub cces_of : Coreset → ℕ
-cces_of c = group_count c.groups * c.duration
-
--- the block after the last one of a group: group 0 begins at the first multiple of six in the bandwidth part
-abbrev pub group_end : Bwp → ℕ → ℕ
-group_end bwp g = 6 * ((bwp.start + 5) / 6) + 6 * g + 6
+cces_of c = cces_in (group_count c.groups) c.duration
 
 -- whether a group reaches outside the bandwidth part
 unfoldable pub reaches_outside : Bwp → ℕ → Bool
 reaches_outside bwp groups =
-    list_any (λ g. has_bit groups g && nat_lt (end_of bwp) (group_end bwp g)) (range_with_len 0 64)
+    list_any (λ g. has_bit groups g && nat_lt (end_of bwp) (group_block bwp.start g + 6)) (range_with_len 0 64)
 
 -- whether a CORESET of this duration that begins at one of the symbols ends after the slot
 unfoldable pub ends_after_slot : ℕ → ℕ → Bool
 ends_after_slot duration symbols =
     list_any (λ y. has_bit symbols y && nat_lt 14 (y + duration)) (range_with_len 0 16)
 
--- whether there are candidates at a level above so many CCEs; level i of the list is 2 ^ i
+-- whether there are candidates at a level above so many CCEs
 unfoldable pub asks_above : ℕ → List ℕ → Bool
 asks_above cces candidates =
-    list_any (λ i. nat_lt 0 (slice_index candidates i) && nat_lt cces (2 ^ i)) (range_with_len 0 5)
+    list_any (λ i. nat_lt 0 (slice_index candidates i) && nat_lt cces (level_at i)) (range_with_len 0 5)
 
 -- whether a bundle does not go with a duration: three REGs go with three symbols alone, and two do not
 abbrev pub bundle_differs : ℕ → ℕ → Bool

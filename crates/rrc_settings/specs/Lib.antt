@@ -1,4 +1,6 @@
+pub mod AggregationLevels
 pub mod Conflicts
+pub mod ControlGroups
 pub mod Equality
 pub mod Faults
 pub mod HandsetsOfCell

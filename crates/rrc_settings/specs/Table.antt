@@ -13,7 +13,7 @@ use Rattle.rrc_settings.specs.declared.settings.DownlinkFields.{DownlinkFields}
 use Rattle.rrc_settings.specs.declared.settings.Handset.{Handset}
 use Rattle.rrc_settings.specs.declared.settings.RawCell.{RawCell}
 use Rattle.rrc_settings.specs.Name.{is_from_to, is_name}
-use Rattle.rrc_settings.specs.Faults.{Steps, Finding, ◌▸◌, unless, first_of, each}
+use Rattle.rrc_settings.specs.Faults.{Steps, Finding, ◌▸◌, fault_at, unless, first_of, each}
 
 -- the kinds of a value: a whole number, a text of a form, true or false, so many numbers, an object, a list of objects of a least and a most length
 pub data Kind : Type 0 where
@@ -37,7 +37,7 @@ no_range at x = None
 
 -- a number in its range
 unfoldable pub in_range : Steps → Key → (ℕ → Bool) → ℕ → Finding
-in_range at key range n = unless (at ▸ key) OutOfRange (range n)
+in_range at key range n = unless (fault_at (at ▸ key) OutOfRange) (range n)
 
 -- a number in its range, where there is one
 abbrev pub in_range_if_given : Steps → Key → (ℕ → Bool) → Option ℕ → Finding
@@ -83,7 +83,7 @@ number_list key count range field = record {
   key = key;
   must_be = true;
   kind = numbers count;
-  range = λ at x. unless (at ▸ key) OutOfRange (list_all range (field x));
+  range = λ at x. unless (fault_at (at ▸ key) OutOfRange) (list_all range (field x));
 }
 
 -- a key with an object

@@ -6,6 +6,7 @@ mod coreset_conflicts;
 mod field_ranges;
 mod items;
 mod legal;
+mod levels;
 mod name;
 mod place;
 mod ranges;
@@ -16,6 +17,7 @@ mod words;
 
 pub use items::Items;
 pub use legal::Cell;
+pub use levels::{LEVELS, is_level};
 pub use name::Name;
 pub use place::{Place, Reason, SettingsFault, Step};
 pub use same::{Same, is_same};

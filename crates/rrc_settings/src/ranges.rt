@@ -1,7 +1,7 @@
 //! The ranges of the numbers of a cell, a handset and its CORESETs and sets, each object's keys in order.
 ghost use Rattle.std.specs.Prelude.{◌≡◌, ◌≤◌, [], OnOk, length};
 ghost use Rattle.std.specs.List.{list_all};
-ghost use Rattle.rrc_settings.specs.Faults.{◌▸◌, found_by, unless};
+ghost use Rattle.rrc_settings.specs.Faults.{◌▸◌, fault_at, found_by, unless};
 ghost use Rattle.rrc_settings.specs.Name.{is_from_to};
 ghost use Rattle.rrc_settings.specs.Table.{in_range, is_one_of, list_ranges, is_candidate_count, is_period, bwp_ranges, interleave_ranges, coreset_ranges, set_ranges, handset_ranges, cell_ranges};
 ghost use Rattle.rrc_settings.specs.declared.words.Key.TheVariants as keys;
@@ -117,7 +117,7 @@ fn coresets_ranges(at: &Place, coresets: &[Coreset]) -> Result<(), SettingsFault
 #[tactic(auto, unfolding(crate::specs::Faults::unless))]
 fn candidates_ranges(at: &Place, candidates: &[u16; 5]) -> Result<(), SettingsFault>
     requires { length at.now.steps.items ≤ 5 }
-    ensures { found_by result ≡ unless (at.now.steps.items ▸ keys.Candidates) reasons.OutOfRange (list_all is_candidate_count candidates.now) }
+    ensures { found_by result ≡ unless (fault_at (at.now.steps.items ▸ keys.Candidates) reasons.OutOfRange) (list_all is_candidate_count candidates.now) }
 {
     if are_candidate_counts(candidates) {
         Ok(())

@@ -6,6 +6,7 @@ ghost use Rattle.rrc_settings.specs.Conflicts.{asks_above, coreset_numbered, end
 
 use crate::conflicts::refuse_if;
 use crate::coreset_conflicts::has_bit;
+use crate::levels::LEVELS;
 use crate::{Coreset, Handset, Key, Place, SearchSet, SetKind, SettingsFault};
 
 /// Whether a CORESET of this duration that begins at one of the symbols ends after the slot.
@@ -21,7 +22,7 @@ fn ends_after_slot(duration: u16, symbols: u16) -> bool
 fn asks_above(cces: u32, candidates: &[u16; 5]) -> bool
     ensures { result ≡ asks_above cces candidates.now }
 {
-    (0..5).any(|level| 0 < candidates[level] && cces < 2u32.pow(level as u32))
+    (0..5).any(|level| 0 < candidates[level] && cces < LEVELS[level] as u32)
 }
 
 /// The CORESET with a number.

@@ -66,7 +66,7 @@ pub struct SearchSet {
     pub duration: u16,
     /// The symbols at which it begins: bit y is symbol y.
     pub symbols: u16,
-    /// How many candidates it has at the aggregation levels 1, 2, 4, 8 and 16.
+    /// How many candidates it has at each of the `LEVELS`.
     pub candidates: [u16; 5],
     /// The base of its candidates' places, 0 in a common set.
     pub base: u16,

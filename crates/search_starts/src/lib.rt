@@ -7,6 +7,3 @@ mod starts;
 
 pub use calendar::is_monitored;
 pub use starts::start_cce;
-
-#[cfg(test)]
-mod tests;

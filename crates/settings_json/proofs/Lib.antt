@@ -1,7 +1,9 @@
 pub mod Elements
 pub mod NoJson
 mod OtherConflicts
+mod OtherFaults
+pub mod OtherKinds
 mod OtherRanges
-mod OtherReasons
+pub mod OtherReasons
 mod OtherShapes
 pub mod Readings

@@ -13,14 +13,15 @@ use Rattle.rrc_settings.specs.declared.settings.UplinkFields.{UplinkFields}
 use Rattle.rrc_settings.specs.declared.settings.DownlinkFields.{DownlinkFields}
 use Rattle.rrc_settings.specs.declared.settings.Handset.{Handset}
 use Rattle.rrc_settings.specs.declared.settings.RawCell.{RawCell}
-use Rattle.rrc_settings.specs.Faults.{Steps, Finding, ◌▸◌, each_after}
+use Rattle.rrc_settings.specs.Faults.{Steps, Finding, ◌▸◌, fault_at, each_after}
 use Rattle.rrc_settings.specs.Conflicts.{conflict, interleave_conflicts, coreset_conflicts, timing_conflicts, set_conflicts, uplink_conflicts, downlink_conflicts, handset_conflicts, cell_conflicts}
-use Rattle.settings_json.proofs.OtherReasons.{IsOther, other_unless, other_first_of, other_first_in, other_if_given}
+use Rattle.settings_json.proofs.OtherFaults.{IsOther, other_first_in, other_if_given}
+use Rattle.settings_json.proofs.OtherReasons.{other_unless, other_first_of}
 
 -- a conflict at a key
 conflict_judges : (at : Steps) (key : Key) (test : Bool) → IsOther (conflict at key test)
 unfolding conflict
-conflict_judges at key test = other_unless (at ▸ key) reasons.Conflict (not test) tt
+conflict_judges at key test = other_unless (fault_at (at ▸ key) reasons.Conflict) (not test) tt
 
 -- the elements of a list, each with those before it
 each_judges : {A : Type 0} (judge : List A → Steps → A → Finding) (at : Steps) (xs : List A) →

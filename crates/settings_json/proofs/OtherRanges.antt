@@ -4,10 +4,11 @@ use Rattle.std.specs.Prelude.{Option, None, Some}
 use Rattle.rrc_settings.specs.declared.words.Key.{Key}
 use Rattle.rrc_settings.specs.declared.place.Reason.TheVariants.{OutOfRange}
 use Rattle.rrc_settings.specs.declared.settings.RawCell.{RawCell}
-use Rattle.rrc_settings.specs.Faults.{Steps, Finding, ◌▸◌}
+use Rattle.rrc_settings.specs.Faults.{Steps, Finding, ◌▸◌, fault_at}
 use Rattle.rrc_settings.specs.Name.{is_from_to}
 use Rattle.rrc_settings.specs.Table.{Row, in_range, in_range_if_given, list_ranges, ranges_by, bwp_table, bwp_ranges, interleave_table, interleave_ranges, coreset_table, coreset_ranges, set_table, set_ranges, uplink_table, uplink_ranges, downlink_table, downlink_ranges, handset_table, handset_ranges, cell_table, cell_ranges}
-use Rattle.settings_json.proofs.OtherReasons.{IsOther, AllOther, other_none, other_unless, other_first_of, other_first_of_two, other_first_in, other_if_given}
+use Rattle.settings_json.proofs.OtherFaults.{reason_of, IsOther, other_first_in, other_if_given}
+use Rattle.settings_json.proofs.OtherReasons.{AllOther, other_none, other_unless, other_first_of, other_first_of_two}
 
 -- checks of a value's numbers that find only other things
 abbrev pub Judges : {T : Type 0} → (Steps → T → Finding) → Type 0
@@ -15,7 +16,7 @@ Judges {T = T} judge = (at : Steps) (x : T) → IsOther (judge at x)
 
 -- the checks of a table's rows, at a place and of a value
 abbrev pub RowsJudge : {T : Type 0} → List (Row T) → Type 0
-RowsJudge {T = T} rows = (at : Steps) (x : T) → AllOther (map (λ (r : Row T). r.range at x) rows)
+RowsJudge {T = T} rows = (at : Steps) (x : T) → AllOther reason_of (map (λ (r : Row T). r.range at x) rows)
 
 -- an object by a table
 by_rows : {T : Type 0} (rows : List (Row T)) → RowsJudge rows → Judges (ranges_by rows)
@@ -24,7 +25,7 @@ by_rows rows h at x = other_first_of _ (h at x)
 -- a number
 number_judges : (at : Steps) (key : Key) (range : ℕ → Bool) (n : ℕ) → IsOther (in_range at key range n)
 unfolding in_range
-number_judges at key range n = other_unless (at ▸ key) OutOfRange (range n) tt
+number_judges at key range n = other_unless (fault_at (at ▸ key) OutOfRange) (range n) tt
 
 -- a number that may be absent
 given_judges : (at : Steps) (key : Key) (range : ℕ → Bool) (n : Option ℕ) → IsOther (in_range_if_given at key range n)

@@ -1,10 +1,10 @@
 -- Checks that find something else than that a text is no JSON.
-use Rattle.std.proofs.Common.{List, [], ◌∷◌, ◌++◌, length, map, Bool, true, false}
+use Rattle.std.proofs.Common.{◌≡◌, ℕ, ◌+◌, List, [], ◌∷◌, map, Bool, true, false, subst}
 use Rattle.std.specs.Prelude.{Option, None, Some}
 use Rattle.rrc_settings.specs.declared.place.Reason.{Reason}
 use Rattle.rrc_settings.specs.declared.place.Reason.TheVariants.{NotJson}
-use Rattle.rrc_settings.specs.Faults.{Steps, Finding, element, unless, first_of, first_in}
-use Rattle.rrc_settings.specs.Table.{if_given}
+use Rattle.rrc_settings.specs.Faults.{unless, first_of}
+use Rattle.settings_json.specs.Kinds.{first_from}
 
 -- a reason that a value may have
 abbrev pub IsOtherReason : Reason → Type 0
@@ -12,53 +12,49 @@ IsOtherReason NotJson = ⊥
 IsOtherReason _ = Unit {0}
 
 -- the fault, where there is one, has such a reason
-abbrev pub HasOther : Finding → Type 0
-HasOther None = Unit {0}
-HasOther (Some fault) = IsOtherReason fault.reason
+abbrev pub HasOther : {F : Type 0} → (F → Reason) → Option F → Type 0
+HasOther reason None = Unit {0}
+HasOther reason (Some fault) = IsOtherReason (reason fault)
 
 -- a finding that is so
-pub record IsOther (found : Finding) : Type 0 where
-  pub reason : HasOther found
+pub record IsOther {F : Type 0} (reason : F → Reason) (found : Option F) : Type 0 where
+  pub has : HasOther reason found
 
 -- each of these findings is so
-abbrev pub AllOther : List Finding → Type 0
-AllOther [] = Unit {0}
-AllOther (f ∷ fs) = IsOther f × AllOther fs
+abbrev pub AllOther : {F : Type 0} → (F → Reason) → List (Option F) → Type 0
+AllOther reason [] = Unit {0}
+AllOther reason (f ∷ fs) = IsOther reason f × AllOther reason fs
 
 -- no fault
-pub other_none : IsOther None
-other_none = record { reason = tt }
+pub other_none : {F : Type 0} {reason : F → Reason} → IsOther reason None
+other_none = record { has = tt }
 
 -- a test with such a reason
-pub other_unless : (at : Steps) (r : Reason) (test : Bool) → IsOtherReason r → IsOther (unless at r test)
+pub other_unless : {F : Type 0} {reason : F → Reason} (fault : F) (test : Bool) → IsOtherReason (reason fault) → IsOther reason (unless fault test)
 unfolding unless
-other_unless at r true h = record { reason = tt }
-other_unless at r false h = record { reason = h }
+other_unless fault true h = record { has = tt }
+other_unless fault false h = record { has = h }
 
 -- the first of several
-pub other_first_of : (fs : List Finding) → AllOther fs → IsOther (first_of fs)
-other_first_of [] h = record { reason = tt }
+pub other_first_of : {F : Type 0} {reason : F → Reason} (fs : List (Option F)) → AllOther reason fs → IsOther reason (first_of fs)
+other_first_of [] h = record { has = tt }
 other_first_of (None ∷ fs) h = other_first_of fs h.1
 other_first_of (Some fault ∷ fs) h = h.0
 
 -- the first of two
-pub other_first_of_two : (f g : Finding) → IsOther f → IsOther g → IsOther (first_of (f ∷ g ∷ []))
+pub other_first_of_two : {F : Type 0} {reason : F → Reason} (f g : Option F) → IsOther reason f → IsOther reason g → IsOther reason (first_of (f ∷ g ∷ []))
 other_first_of_two f g a b = other_first_of (f ∷ g ∷ []) (a, (b, tt))
 
 -- what one check finds in each element
-pub other_map : {A : Type 0} (f : A → Finding) (xs : List A) → ((x : A) → IsOther (f x)) → AllOther (map f xs)
+pub other_map : {A F : Type 0} {reason : F → Reason} (f : A → Option F) (xs : List A) → ((x : A) → IsOther reason (f x)) → AllOther reason (map f xs)
 other_map f [] h = tt
 other_map f (x ∷ xs) h = (h x, other_map f xs h)
 
--- the elements of a list, each judged with those before it
-pub other_first_in : {A : Type 0} (judge : List A → Steps → A → Finding) (at : Steps) (earlier later : List A) →
-    ((before : List A) (there : Steps) (x : A) → IsOther (judge before there x)) → IsOther (first_in judge at earlier later)
-other_first_in judge at earlier [] h = record { reason = tt }
-other_first_in judge at earlier (x ∷ later) h =
-    other_first_of_two _ _ (h earlier (element at (length earlier)) x) (other_first_in judge at (earlier ++ x ∷ []) later h)
+-- the elements of a list, each judged with its number
+pub other_first_from : {A F : Type 0} {reason : F → Reason} (judge : ℕ → A → Option F) (n : ℕ) (xs : List A) → ((k : ℕ) (x : A) → IsOther reason (judge k x)) → IsOther reason (first_from judge n xs)
+other_first_from judge n [] h = other_none
+other_first_from judge n (x ∷ later) h = other_first_of_two _ _ (h n x) (other_first_from judge (n + 1) later h)
 
--- a value that may be absent
-pub other_if_given : {T : Type 0} (judge : Steps → T → Finding) (at : Steps) (x : Option T) → ((y : T) → IsOther (judge at y)) →
-    IsOther (if_given judge at x)
-other_if_given judge at None h = other_none
-other_if_given judge at (Some x) h = h x
+-- a fault that is found has such a reason
+pub other_found : {F : Type 0} {reason : F → Reason} (found : Option F) (fault : F) → IsOther reason found → found ≡ Some fault → IsOtherReason (reason fault)
+other_found {reason = reason} found fault h e = subst (λ f. HasOther reason f) e h.has

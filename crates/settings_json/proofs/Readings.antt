@@ -1,17 +1,14 @@
--- The reading of bytes, and what follows for their first fault and their settings.
-use Rattle.std.proofs.Common.{◌≡◌, ℕ, List, [], Bool, true, false, inl, inr, refl}
+-- The reading of bytes, and what follows for what is found in them and for what they spell.
+use Rattle.std.proofs.Common.{◌≡◌, ℕ, List, Bool, true, false, inl, inr, sym, ◌∙◌, refl}
 use Rattle.std.specs.Prelude.{Option, None, Some, IsUtf8, cond}
 use Rattle.std.specs.Str.{is_utf8}
 use Rattle.std.proofs.lemmas.Str.{IsUtf8-from_is_utf8, is_utf8-from_IsUtf8}
-use Rattle.rrc_settings.specs.declared.place.Reason.TheVariants.{NotJson}
-use Rattle.rrc_settings.specs.Faults.{fault_at}
 use Rattle.serde_json.specs.Data.{Data}
 use Rattle.serde_json.specs.Read.{read}
-use Rattle.settings_json.specs.First.{IsJson, IsNoJson, json_of, first_fault_in, first_fault_of, raw_in}
-use Rattle.settings_json.specs.Values.{raw_value}
+use Rattle.settings_json.specs.Texts.{IsJson, IsNoJson, json_of, found_in, spelled_in}
 
 -- a JSON text has its reading
-pub json_of_json : (bytes : List ℕ) (d : Data) → IsJson bytes d → json_of bytes ≡ Some d
+json_of_json : (bytes : List ℕ) (d : Data) → IsJson bytes d → json_of bytes ≡ Some d
 unfolding json_of
 json_of_json bytes d j = let u = is_utf8-from_IsUtf8 bytes j.0 in rw (u, j.1)
 
@@ -30,22 +27,38 @@ none_by true found e = e
 none_by false found e = refl
 
 -- what is no JSON has no reading
-pub json_of_no_json : (bytes : List ℕ) → IsNoJson bytes → json_of bytes ≡ None
+json_of_no_json : (bytes : List ℕ) → IsNoJson bytes → json_of bytes ≡ None
 unfolding json_of
 json_of_no_json bytes (inl n) = rw (no_utf8 bytes n)
 json_of_no_json bytes (inr e) = none_by (is_utf8 bytes) (read bytes) e
 
--- the first fault of a JSON text is that of its value
-pub first_fault_of_json : (bytes : List ℕ) (d : Data) → IsJson bytes d → first_fault_in bytes ≡ first_fault_of d
-unfolding first_fault_in
-first_fault_of_json bytes d j = rw (json_of_json bytes d j)
+-- what is found in a JSON text is found in its value
+pub found_of_json : {F : Type 0} (no_json : F) (judge : Data → Option F) (bytes : List ℕ) (d : Data) → IsJson bytes d →
+    found_in no_json judge bytes ≡ judge d
+unfolding found_in
+found_of_json no_json judge bytes d j = rw (json_of_json bytes d j)
 
--- the settings of a JSON text are those of its value
-pub raw_of_json : (bytes : List ℕ) (d : Data) → IsJson bytes d → raw_in bytes ≡ raw_value d
-unfolding raw_in
-raw_of_json bytes d j = rw (json_of_json bytes d j)
+-- what a JSON text spells is what its value spells
+pub spelled_of_json : {T : Type 0} (value : Data → T) (bytes : List ℕ) (d : Data) → IsJson bytes d → spelled_in value bytes ≡ value d
+unfolding spelled_in
+spelled_of_json value bytes d j = rw (json_of_json bytes d j)
 
--- what is no JSON has that as its first fault
-pub first_fault_of_no_json : (bytes : List ℕ) → IsNoJson bytes → first_fault_in bytes ≡ Some (fault_at [] NotJson)
-unfolding first_fault_in
-first_fault_of_no_json bytes n = rw (json_of_no_json bytes n)
+-- in what is no JSON just that is found
+pub found_of_no_json : {F : Type 0} (no_json : F) (judge : Data → Option F) (bytes : List ℕ) → IsNoJson bytes →
+    found_in no_json judge bytes ≡ Some no_json
+unfolding found_in
+found_of_no_json no_json judge bytes n = rw (json_of_no_json bytes n)
+
+-- bytes that are UTF-8 or not, and that have a reading or none
+by_reading : {F : Type 0} (no_json fault : F) (judge : Data → Option F) (bytes : List ℕ) → ((d : Data) → judge d ≡ Some fault → ⊥) →
+    (test : Bool) (found : Option Data) → is_utf8 bytes ≡ test → read bytes ≡ found → found_in no_json judge bytes ≡ Some fault → IsNoJson bytes
+by_reading no_json fault judge bytes never false found u r e = inl (λ text. absurd (let t = is_utf8-from_IsUtf8 bytes text in cc))
+by_reading no_json fault judge bytes never true None u r e = inr r
+by_reading no_json fault judge bytes never true (Some d) u r e =
+    let json : IsJson bytes d = (IsUtf8-from_is_utf8 bytes u, r) in
+    absurd (never d (sym (found_of_json no_json judge bytes d json) ∙ e))
+
+-- bytes in which a fault is found that no value has are no JSON
+pub no_json_where : {F : Type 0} (no_json fault : F) (judge : Data → Option F) (bytes : List ℕ) → ((d : Data) → judge d ≡ Some fault → ⊥) →
+    found_in no_json judge bytes ≡ Some fault → IsNoJson bytes
+no_json_where no_json fault judge bytes never e = by_reading no_json fault judge bytes never (is_utf8 bytes) (read bytes) refl refl e

@@ -1,13 +1,15 @@
 //! The whole of the settings.
 ghost use Rattle.std.specs.Prelude.{◌≡◌, ◌≤◌, ◌⊎◌, [], Err, IfErr, IfOk, length, map};
-ghost use Rattle.rrc_settings.specs.Faults.{each, fault_at, Steps};
+ghost use Rattle.rrc_settings.specs.Faults.{fault_at, Steps};
 ghost use Rattle.rrc_settings.specs.declared.words.Key.TheVariants as keys;
 ghost use Rattle.rrc_settings.specs.declared.place.Reason.TheVariants as reasons;
 ghost use Rattle.serde_json.specs.Data.{Data};
 ghost use Rattle.serde_json.specs.View.{view};
-ghost use Rattle.settings_json.specs.First.{first_fault_in, first_fault_of, Gives, GivesList, IsJson, IsNoJson, raw_in};
-ghost use Rattle.settings_json.specs.Kinds.{elements_in, entry, judge_list, must};
+ghost use Rattle.settings_json.specs.First.{first_fault_in, first_fault_of, Gives, GivesList, raw_in};
+ghost use Rattle.settings_json.specs.Kinds.{elements_in, entry, judge_each, judge_list, must};
+ghost use Rattle.settings_json.specs.Names.{names};
 ghost use Rattle.settings_json.specs.Shapes.{cell, handset};
+ghost use Rattle.settings_json.specs.Texts.{IsJson, IsNoJson};
 ghost use Rattle.settings_json.specs.Values.{handset_value, raw_value};
 ghost use Rattle.settings_json.specs.declared.error.SettingsError.TheVariants.{Fault, NoMemory};
 
@@ -33,11 +35,11 @@ const KEYS: [Key; 8] = [
 ];
 
 /// The handsets of a list at this place.
-#[tactic(auto, using(crate::proofs::Elements::first_in_view_next, crate::proofs::Elements::take_view_next))]
+#[tactic(auto, using(crate::proofs::Elements::first_from_view_next, crate::proofs::Elements::take_view_next))]
 fn handsets_in(alloc: Global, at: &Place, values: &[Value]) -> Result<Vec<Handset>, SettingsError>
     requires room { length at.now.steps.items ≤ 1 }
     requires few { length values.now ≤ 64 }
-    ensures { GivesList (each handset at.now.steps.items (map view values.now)) (map handset_value (map view values.now)) result }
+    ensures { GivesList (judge_each names handset at.now.steps.items (map view values.now)) (map handset_value (map view values.now)) result }
 {
     let mut handsets = Vec::new(alloc);
     for (index, value) in values.iter().enumerate() {
@@ -50,8 +52,8 @@ fn handsets_in(alloc: Global, at: &Place, values: &[Value]) -> Result<Vec<Handse
 #[tactic(auto, unfolding(rrc_settings::specs::Faults::unless, crate::specs::Kinds::entry, crate::specs::Kinds::judge_list))]
 fn handsets_at(alloc: Global, at: &Place, value: &Value) -> Result<Vec<Handset>, SettingsError>
     requires { at.now.steps.items ≡ [] }
-    ensures { GivesList (entry [] (view value.now) (must keys.Handsets (judge_list 1 64 handset)))
-        (map handset_value (elements_in keys.Handsets (view value.now))) result }
+    ensures { GivesList (entry names [] (view value.now) (must keys.Handsets (judge_list names 1 64 handset)))
+        (map handset_value (elements_in names keys.Handsets (view value.now))) result }
 {
     let found = required(at, value, Key::Handsets)?;
     let place = at.key(Key::Handsets);
@@ -104,7 +106,7 @@ fn value_of(alloc: Global, bytes: &[u8]) -> Result<Value, SettingsError>
 /// Reads the settings of a cell from a JSON text: the legal cell that they spell, or the first fault of their shape, of
 /// the ranges of their numbers, and of what may not stand together, in this order. `NotJson` comes exactly where the
 /// bytes are no UTF-8 or have no reading as JSON, which nests at most 127 deep.
-#[tactic(auto, using(crate::proofs::Readings::first_fault_of_json, crate::proofs::Readings::raw_of_json, crate::proofs::Readings::first_fault_of_no_json))]
+#[tactic(auto, using(crate::proofs::Readings::found_of_json, crate::proofs::Readings::spelled_of_json, crate::proofs::Readings::found_of_no_json))]
 pub fn read_settings(alloc: Global, bytes: &[u8]) -> Result<Cell, SettingsError>
     ensures no_json { IsNoJson bytes.now → (result ≡ Err NoMemory) ⊎ (result ≡ Err (Fault (fault_at [] reasons.NotJson))) }
     ensures json { (d : Data) → IsJson bytes.now d → Gives (first_fault_of d) (raw_value d) result }

@@ -3,6 +3,7 @@ ghost use Rattle.std.specs.Prelude.{◌≡◌, ◌≤◌, length, option_map};
 ghost use Rattle.rrc_settings.specs.declared.words.Key.TheVariants as keys;
 ghost use Rattle.serde_json.specs.View.{view};
 ghost use Rattle.settings_json.specs.Kinds.{entry, inner_at, may, must, value_at};
+ghost use Rattle.settings_json.specs.Names.{names};
 ghost use Rattle.settings_json.specs.Reads.{Reads};
 ghost use Rattle.settings_json.specs.Shapes.{bwp, coreset, interleave};
 ghost use Rattle.settings_json.specs.Values.{bwp_value, coreset_value, interleave_value};
@@ -29,7 +30,7 @@ fn bwp_of(at: &Place, value: &Value) -> Result<Bwp, SettingsFault>
 #[tactic(auto, unfolding(rrc_settings::specs::Faults::unless, crate::specs::Kinds::entry))]
 pub(crate) fn bwp_at(at: &Place, value: &Value, key: Key) -> Result<Bwp, SettingsFault>
     requires { length at.now.steps.items ≤ 4 }
-    ensures { Reads (entry at.now.steps.items (view value.now) (must key bwp)) (bwp_value (inner_at key (view value.now))) result }
+    ensures { Reads (entry names at.now.steps.items (view value.now) (must key bwp)) (bwp_value (inner_at names key (view value.now))) result }
 {
     let found = required(at, value, key)?;
     bwp_of(&at.key(key), found)
@@ -56,8 +57,8 @@ fn interleave_of(at: &Place, value: &Value) -> Result<Interleave, SettingsFault>
 #[tactic(auto, unfolding(rrc_settings::specs::Faults::unless, crate::specs::Kinds::entry))]
 fn optional_interleave_at(at: &Place, value: &Value) -> Result<Option<Interleave>, SettingsFault>
     requires { length at.now.steps.items ≤ 4 }
-    ensures { Reads (entry at.now.steps.items (view value.now) (may keys.Interleave interleave))
-        (option_map interleave_value (value_at keys.Interleave (view value.now))) result }
+    ensures { Reads (entry names at.now.steps.items (view value.now) (may keys.Interleave interleave))
+        (option_map interleave_value (value_at names keys.Interleave (view value.now))) result }
 {
     match value_at(value, Key::Interleave) {
         None => Ok(None),

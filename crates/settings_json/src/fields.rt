@@ -3,6 +3,7 @@ ghost use Rattle.std.specs.Prelude.{◌≤◌, length, option_map};
 ghost use Rattle.rrc_settings.specs.declared.words.Key.TheVariants as keys;
 ghost use Rattle.serde_json.specs.View.{view};
 ghost use Rattle.settings_json.specs.Kinds.{entry, may, value_at};
+ghost use Rattle.settings_json.specs.Names.{names};
 ghost use Rattle.settings_json.specs.Reads.{Reads};
 ghost use Rattle.settings_json.specs.Shapes.{downlink, uplink};
 ghost use Rattle.settings_json.specs.Values.{downlink_value, uplink_value};
@@ -82,8 +83,8 @@ pub(crate) fn optional_uplink_at(
     value: &Value,
 ) -> Result<Option<UplinkFields>, SettingsFault>
     requires { length at.now.steps.items ≤ 4 }
-    ensures { Reads (entry at.now.steps.items (view value.now) (may keys.UplinkFields uplink))
-        (option_map uplink_value (value_at keys.UplinkFields (view value.now))) result }
+    ensures { Reads (entry names at.now.steps.items (view value.now) (may keys.UplinkFields uplink))
+        (option_map uplink_value (value_at names keys.UplinkFields (view value.now))) result }
 {
     match value_at(value, Key::UplinkFields) {
         None => Ok(None),
@@ -124,8 +125,8 @@ pub(crate) fn optional_downlink_at(
     value: &Value,
 ) -> Result<Option<DownlinkFields>, SettingsFault>
     requires { length at.now.steps.items ≤ 4 }
-    ensures { Reads (entry at.now.steps.items (view value.now) (may keys.DownlinkFields downlink))
-        (option_map downlink_value (value_at keys.DownlinkFields (view value.now))) result }
+    ensures { Reads (entry names at.now.steps.items (view value.now) (may keys.DownlinkFields downlink))
+        (option_map downlink_value (value_at names keys.DownlinkFields (view value.now))) result }
 {
     match value_at(value, Key::DownlinkFields) {
         None => Ok(None),

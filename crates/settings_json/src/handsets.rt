@@ -1,9 +1,9 @@
 //! The CORESETs and sets of a handset, and the handset itself.
 ghost use Rattle.std.specs.Prelude.{◌≡◌, ◌≤◌, None, Some, length, map};
-ghost use Rattle.rrc_settings.specs.Faults.{each};
 ghost use Rattle.rrc_settings.specs.declared.words.Key.TheVariants as keys;
 ghost use Rattle.serde_json.specs.View.{view};
-ghost use Rattle.settings_json.specs.Kinds.{elements_in, entry, judge_list, must};
+ghost use Rattle.settings_json.specs.Kinds.{elements_in, entry, judge_each, judge_list, must};
+ghost use Rattle.settings_json.specs.Names.{names};
 ghost use Rattle.settings_json.specs.Reads.{Reads, ReadsList};
 ghost use Rattle.settings_json.specs.Shapes.{coreset, handset, search_set};
 ghost use Rattle.settings_json.specs.Values.{coreset_value, handset_value, set_value};
@@ -33,11 +33,11 @@ const KEYS: [Key; 9] = [
 ];
 
 /// The CORESETs of a list at this place.
-#[tactic(auto, using(crate::proofs::Elements::first_in_view_next, crate::proofs::Elements::take_view_next))]
+#[tactic(auto, using(crate::proofs::Elements::first_from_view_next, crate::proofs::Elements::take_view_next))]
 fn coresets_in(at: &Place, values: &[Value]) -> Result<ArrayVec<Coreset, 3>, SettingsFault>
     requires room { length at.now.steps.items ≤ 3 }
     requires few { length values.now ≤ 3 }
-    ensures { ReadsList (each coreset at.now.steps.items (map view values.now)) (map coreset_value (map view values.now)) result }
+    ensures { ReadsList (judge_each names coreset at.now.steps.items (map view values.now)) (map coreset_value (map view values.now)) result }
 {
     let mut coresets = ArrayVec::new();
     for (index, value) in values.iter().enumerate() {
@@ -50,8 +50,8 @@ fn coresets_in(at: &Place, values: &[Value]) -> Result<ArrayVec<Coreset, 3>, Set
 #[tactic(auto, unfolding(rrc_settings::specs::Faults::unless, crate::specs::Kinds::entry, crate::specs::Kinds::judge_list))]
 fn coresets_at(at: &Place, value: &Value) -> Result<ArrayVec<Coreset, 3>, SettingsFault>
     requires { length at.now.steps.items ≤ 2 }
-    ensures { ReadsList (entry at.now.steps.items (view value.now) (must keys.Coresets (judge_list 1 3 coreset)))
-        (map coreset_value (elements_in keys.Coresets (view value.now))) result }
+    ensures { ReadsList (entry names at.now.steps.items (view value.now) (must keys.Coresets (judge_list names 1 3 coreset)))
+        (map coreset_value (elements_in names keys.Coresets (view value.now))) result }
 {
     let found = required(at, value, Key::Coresets)?;
     let place = at.key(Key::Coresets);
@@ -59,11 +59,11 @@ fn coresets_at(at: &Place, value: &Value) -> Result<ArrayVec<Coreset, 3>, Settin
 }
 
 /// The sets of a list at this place.
-#[tactic(auto, using(crate::proofs::Elements::first_in_view_next, crate::proofs::Elements::take_view_next))]
+#[tactic(auto, using(crate::proofs::Elements::first_from_view_next, crate::proofs::Elements::take_view_next))]
 fn sets_in(at: &Place, values: &[Value]) -> Result<ArrayVec<SearchSet, 10>, SettingsFault>
     requires room { length at.now.steps.items ≤ 3 }
     requires few { length values.now ≤ 10 }
-    ensures { ReadsList (each search_set at.now.steps.items (map view values.now)) (map set_value (map view values.now)) result }
+    ensures { ReadsList (judge_each names search_set at.now.steps.items (map view values.now)) (map set_value (map view values.now)) result }
 {
     let mut sets = ArrayVec::new();
     for (index, value) in values.iter().enumerate() {
@@ -76,8 +76,8 @@ fn sets_in(at: &Place, values: &[Value]) -> Result<ArrayVec<SearchSet, 10>, Sett
 #[tactic(auto, unfolding(rrc_settings::specs::Faults::unless, crate::specs::Kinds::entry, crate::specs::Kinds::judge_list))]
 fn sets_at(at: &Place, value: &Value) -> Result<ArrayVec<SearchSet, 10>, SettingsFault>
     requires { length at.now.steps.items ≤ 2 }
-    ensures { ReadsList (entry at.now.steps.items (view value.now) (must keys.Sets (judge_list 1 10 search_set)))
-        (map set_value (elements_in keys.Sets (view value.now))) result }
+    ensures { ReadsList (entry names at.now.steps.items (view value.now) (must keys.Sets (judge_list names 1 10 search_set)))
+        (map set_value (elements_in names keys.Sets (view value.now))) result }
 {
     let found = required(at, value, Key::Sets)?;
     let place = at.key(Key::Sets);

@@ -7,6 +7,7 @@ ghost use Rattle.rrc_settings.specs.declared.place.Reason.TheVariants as reasons
 ghost use Rattle.serde_json.specs.Find.{as_array};
 ghost use Rattle.serde_json.specs.View.{view};
 ghost use Rattle.settings_json.specs.Kinds.{elements_in, elements_of, entry, is_list, judge_numbers, judge_whole, must, number_of};
+ghost use Rattle.settings_json.specs.Names.{names};
 ghost use Rattle.settings_json.specs.Reads.{Reads};
 
 use crate::leaves::{fault_at, required, whole};
@@ -43,11 +44,11 @@ pub(crate) fn list_of<'a>(
     low: usize,
     high: usize,
 ) -> Result<&'a [Value], SettingsFault>
-    ensures good { OnOk result (is_list low high at.now.steps.items (view value.now) ≡ None) }
+    ensures good { OnOk result (is_list names low high at.now.steps.items (view value.now) ≡ None) }
     ensures elements { IfOk result (λ values. elements_of (view value.now) ≡ map view values.now) }
     ensures least { IfOk result (λ values. low ≤ length values.now) }
     ensures most { IfOk result (λ values. length values.now ≤ high) }
-    ensures fault { IfErr result (λ fault. is_list low high at.now.steps.items (view value.now) ≡ Some fault) }
+    ensures fault { IfErr result (λ fault. is_list names low high at.now.steps.items (view value.now) ≡ Some fault) }
 {
     let values = elements(at, value)?;
     if is_from_to(low, high, values.len()) {
@@ -60,7 +61,7 @@ pub(crate) fn list_of<'a>(
 /// Five whole numbers; each one that is at fault is named by this place.
 fn five_numbers(at: &Place, values: &[Value]) -> Result<[u16; 5], SettingsFault>
     requires { length values.now ≡ 5 }
-    ensures { Reads (first_of (map (judge_whole at.now.steps.items) (map view values.now))) (map number_of (map view values.now)) result }
+    ensures { Reads (first_of (map (judge_whole names at.now.steps.items) (map view values.now))) (map number_of (map view values.now)) result }
 {
     let first = whole(at, &values[0])?;
     let second = whole(at, &values[1])?;
@@ -74,7 +75,7 @@ fn five_numbers(at: &Place, values: &[Value]) -> Result<[u16; 5], SettingsFault>
 #[tactic(auto, unfolding(rrc_settings::specs::Faults::unless, crate::specs::Kinds::entry, crate::specs::Kinds::judge_numbers))]
 pub(crate) fn candidates_at(at: &Place, value: &Value) -> Result<[u16; 5], SettingsFault>
     requires { length at.now.steps.items ≤ 5 }
-    ensures { Reads (entry at.now.steps.items (view value.now) (must keys.Candidates (judge_numbers 5))) (map number_of (elements_in keys.Candidates (view value.now))) result }
+    ensures { Reads (entry names at.now.steps.items (view value.now) (must keys.Candidates (judge_numbers names 5))) (map number_of (elements_in names keys.Candidates (view value.now))) result }
 {
     let found = required(at, value, Key::Candidates)?;
     let place = at.key(Key::Candidates);

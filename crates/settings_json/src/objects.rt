@@ -6,6 +6,7 @@ ghost use Rattle.rrc_settings.specs.Words.{word_of};
 ghost use Rattle.std.specs.Prelude.{bytes_eq};
 ghost use Rattle.serde_json.specs.View.{view, members_view};
 ghost use Rattle.settings_json.specs.Kinds.{has_only, is_object_of};
+ghost use Rattle.settings_json.specs.Names.{names};
 
 use crate::leaves::fault_at;
 use rrc_settings::{Key, Place, Reason, SettingsFault};
@@ -20,7 +21,7 @@ fn is_among(keys: &[Key], word: &[u8]) -> bool
 
 /// Whether every member's key is one of these.
 fn has_only(keys: &[Key], members: &Map<String, Value>) -> bool
-    ensures { result ≡ has_only keys.now (members_view members.now.entries) }
+    ensures { result ≡ has_only names keys.now (members_view members.now.entries) }
 {
     for (key, _value) in members.iter() {
         if !is_among(keys, key.as_bytes()) {
@@ -33,7 +34,7 @@ fn has_only(keys: &[Key], members: &Map<String, Value>) -> bool
 /// Refuses a value that is no object, or has a key beside these.
 #[tactic(auto, unfolding(rrc_settings::specs::Faults::unless, crate::specs::Kinds::is_object_of))]
 pub(crate) fn is_object_of(at: &Place, keys: &[Key], value: &Value) -> Result<(), SettingsFault>
-    ensures { found_by result ≡ is_object_of keys.now at.now.steps.items (view value.now) }
+    ensures { found_by result ≡ is_object_of names keys.now at.now.steps.items (view value.now) }
 {
     let Some(members) = value.as_object() else {
         return Err(fault_at(at, Reason::WrongKind));

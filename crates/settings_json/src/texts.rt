@@ -9,6 +9,7 @@ ghost use Rattle.rrc_settings.specs.declared.place.Reason.TheVariants as reasons
 ghost use Rattle.serde_json.specs.Find.{as_str};
 ghost use Rattle.serde_json.specs.View.{view};
 ghost use Rattle.settings_json.specs.Kinds.{bits_value, entry, judge_text, must, text_in};
+ghost use Rattle.settings_json.specs.Names.{names};
 ghost use Rattle.settings_json.specs.Values.{allocation_of, codebook_of, set_kind_of};
 ghost use Rattle.settings_json.specs.Reads.{Reads};
 
@@ -31,7 +32,7 @@ fn text<'a>(at: &Place, value: &'a Value) -> Result<&'a [u8], SettingsFault>
 #[tactic(auto, unfolding(rrc_settings::specs::Faults::unless, crate::specs::Kinds::entry, crate::specs::Kinds::judge_text))]
 pub(crate) fn name_at(at: &Place, value: &Value) -> Result<Name, SettingsFault>
     requires { length at.now.steps.items ≤ 5 }
-    ensures { Reads (entry at.now.steps.items (view value.now) (must keys.Name (judge_text is_name))) (text_in keys.Name (view value.now)) result }
+    ensures { Reads (entry names at.now.steps.items (view value.now) (must keys.Name (judge_text names is_name))) (text_in names keys.Name (view value.now)) result }
 {
     let found = required(at, value, Key::Name)?;
     let place = at.key(Key::Name);
@@ -45,8 +46,8 @@ pub(crate) fn name_at(at: &Place, value: &Value) -> Result<Name, SettingsFault>
 #[tactic(auto, unfolding(rrc_settings::specs::Faults::unless, crate::specs::Kinds::entry, crate::specs::Kinds::judge_text))]
 pub(crate) fn codebook_at(at: &Place, value: &Value) -> Result<Codebook, SettingsFault>
     requires { length at.now.steps.items ≤ 5 }
-    ensures { Reads (entry at.now.steps.items (view value.now) (must keys.Codebook (judge_text (is_word_of (codes "semi_static" ∷ codes "dynamic" ∷ [])))))
-        (codebook_of (text_in keys.Codebook (view value.now))) result }
+    ensures { Reads (entry names at.now.steps.items (view value.now) (must keys.Codebook (judge_text names (is_word_of (codes "semi_static" ∷ codes "dynamic" ∷ [])))))
+        (codebook_of (text_in names keys.Codebook (view value.now))) result }
 {
     let found = required(at, value, Key::Codebook)?;
     let place = at.key(Key::Codebook);
@@ -64,8 +65,8 @@ pub(crate) fn codebook_at(at: &Place, value: &Value) -> Result<Codebook, Setting
 #[tactic(auto, unfolding(rrc_settings::specs::Faults::unless, crate::specs::Kinds::entry, crate::specs::Kinds::judge_text))]
 pub(crate) fn allocation_at(at: &Place, value: &Value) -> Result<Allocation, SettingsFault>
     requires { length at.now.steps.items ≤ 5 }
-    ensures { Reads (entry at.now.steps.items (view value.now) (must keys.Allocation (judge_text is_allocation)))
-        (allocation_of (text_in keys.Allocation (view value.now))) result }
+    ensures { Reads (entry names at.now.steps.items (view value.now) (must keys.Allocation (judge_text names is_allocation)))
+        (allocation_of (text_in names keys.Allocation (view value.now))) result }
 {
     let found = required(at, value, Key::Allocation)?;
     let place = at.key(Key::Allocation);
@@ -85,8 +86,8 @@ pub(crate) fn allocation_at(at: &Place, value: &Value) -> Result<Allocation, Set
 #[tactic(auto, unfolding(rrc_settings::specs::Faults::unless, crate::specs::Kinds::entry, crate::specs::Kinds::judge_text))]
 pub(crate) fn set_kind_at(at: &Place, value: &Value) -> Result<SetKind, SettingsFault>
     requires { length at.now.steps.items ≤ 5 }
-    ensures { Reads (entry at.now.steps.items (view value.now) (must keys.Kind (judge_text (is_word_of (codes "common" ∷ codes "fallback" ∷ codes "specific" ∷ [])))))
-        (set_kind_of (text_in keys.Kind (view value.now))) result }
+    ensures { Reads (entry names at.now.steps.items (view value.now) (must keys.Kind (judge_text names (is_word_of (codes "common" ∷ codes "fallback" ∷ codes "specific" ∷ [])))))
+        (set_kind_of (text_in names keys.Kind (view value.now))) result }
 {
     let found = required(at, value, Key::Kind)?;
     let place = at.key(Key::Kind);
@@ -131,7 +132,7 @@ pub(crate) fn bits_at(
 ) -> Result<u64, SettingsFault>
     requires room { length at.now.steps.items ≤ 5 }
     requires few { count ≤ 63 }
-    ensures value { Reads (entry at.now.steps.items (view value.now) (must key (judge_text (is_bits count)))) (bits_value (text_in key (view value.now))) result }
+    ensures value { Reads (entry names at.now.steps.items (view value.now) (must key (judge_text names (is_bits count)))) (bits_value (text_in names key (view value.now))) result }
     ensures below { IfOk result (λ bits. bits < 2 ^ count) }
 {
     let found = required(at, value, key)?;

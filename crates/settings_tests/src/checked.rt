@@ -1,9 +1,10 @@
 //! The checks in order, each with a second fault that comes later in the same settings.
 mod draft;
 
+use crate::words::place_words;
 use draft::Draft;
-use rrc_settings::{Cell, Items, Name, Place, Reason, Step};
-use std::alloc::{AllocError, Global};
+use rrc_settings::{Cell, Items, Name, Reason};
+use std::alloc::Global;
 use std::process::Abort;
 use std::test::Fail;
 
@@ -618,38 +619,19 @@ impl Wrong {
     }
 }
 
-/// The steps of a place, joined by `/`.
-fn text_of(alloc: Global, place: &Place) -> Result<String, AllocError> {
-    let mut text = String::new(alloc);
-    for step in place.steps.as_slice() {
-        if !text.is_empty() {
-            text.push('/')?;
-        }
-        match step {
-            Step::Key(key) => text.push_str(key.text())?,
-            Step::Index(index) => text.push_str(format!(in alloc; "{index}")?.as_str())?,
-        }
-    }
-    Ok(text)
-}
-
 /// The place and the reason of the fault of settings with two things wrong.
 fn fault_of(
     rt: &impl Abort,
     alloc: Global,
     wrong: Wrong,
     later: Wrong,
-) -> Result<Option<(String, Reason)>, Fail> {
+) -> Result<(String, Reason), Fail> {
     let mut draft = Draft::RIGHT;
     later.apply(&mut draft);
     wrong.apply(&mut draft);
-    let raw = draft.raw_cell(rt, alloc)?;
-    match Cell::checked(raw) {
-        Ok(_cell) => Ok(None),
-        Err(fault) => {
-            let text = text_of(alloc, &fault.place)?;
-            Ok(Some((text, fault.reason)))
-        }
+    match Cell::checked(draft.raw_cell(rt, alloc)?) {
+        Ok(_cell) => Err("no fault".into()),
+        Err(fault) => Ok((place_words(alloc, &fault.place)?, fault.reason)),
     }
 }
 
@@ -657,30 +639,32 @@ fn fault_of(
 fn the_first_fault(rt: HostRuntime) -> Result<(), Fail> {
     for case in &CASES {
         let (wrong, later, place, reason) = *case;
-        let Some((text, found)) = fault_of(&rt, rt.alloc(), wrong, later)? else {
-            assert!(rt; false, "no fault at {place}");
-            return Ok(());
-        };
-        assert_eq!(rt; text.as_str(), place);
-        assert_eq!(rt; found, reason, "at {place}");
+        let (found, found_reason) = fault_of(&rt, rt.alloc(), wrong, later)?;
+        assert_eq!(rt; found.as_str(), place);
+        assert_eq!(rt; found_reason, reason, "at {place}");
     }
     Ok(())
 }
 
+/// The cell of the settings that are right.
+fn right_cell(rt: &impl Abort, alloc: Global) -> Result<Cell, Fail> {
+    let raw = Draft::RIGHT.raw_cell(rt, alloc)?;
+    Ok(Cell::checked(raw)?)
+}
+
 #[test]
 fn settings_that_are_right(rt: HostRuntime) -> Result<(), Fail> {
+    let cell = right_cell(&rt, rt.alloc())?;
     let raw = Draft::RIGHT.raw_cell(&rt, rt.alloc())?;
-    let Ok(cell) = Cell::checked(raw) else {
-        assert!(rt; false, "a fault");
-        return Ok(());
-    };
-    let same = Draft::RIGHT.raw_cell(&rt, rt.alloc())?;
-    assert!(rt; *cell.raw() == same);
-    let Ok(other) = Cell::checked(same) else {
-        assert!(rt; false, "a fault");
-        return Ok(());
-    };
+    assert!(rt; *cell.raw() == raw);
+    let other = right_cell(&rt, rt.alloc())?;
     assert!(rt; cell == other);
+    Ok(())
+}
+
+#[test]
+fn handsets_by_their_names(rt: HostRuntime) -> Result<(), Fail> {
+    let cell = right_cell(&rt, rt.alloc())?;
     let beta = Name::of(b"beta").expect(&rt, "a name");
     let gamma = Name::of(b"gamma").expect(&rt, "a name");
     assert_eq!(rt; cell.handset_of(&beta), Some(1));

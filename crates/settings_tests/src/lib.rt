@@ -6,3 +6,5 @@
 mod checked;
 #[cfg(test)]
 mod read;
+#[cfg(test)]
+mod words;

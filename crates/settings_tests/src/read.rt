@@ -7,13 +7,13 @@ mod kinds;
 mod limits;
 mod passes;
 
+use crate::words::words_of;
 use arrayvec::ArrayVec;
 use rrc_settings::{
-    Bwp, Cell, Codebook, Coreset, Handset, Items, Name, RawCell, Reason, SearchSet, SetKind,
-    SettingsFault, Step,
+    Bwp, Cell, Codebook, Coreset, Handset, Items, Name, RawCell, SearchSet, SetKind,
 };
 use settings_json::{SettingsError, read_settings};
-use std::alloc::{AllocError, Global};
+use std::alloc::Global;
 use std::test::Fail;
 
 /// Settings of one handset.
@@ -74,32 +74,6 @@ fn raw_cell(alloc: Global) -> Result<RawCell, Fail> {
     })
 }
 
-/// A fault's place and reason in words.
-fn words_of(alloc: Global, fault: &SettingsFault) -> Result<String, AllocError> {
-    let mut words = String::new(alloc);
-    for step in fault.place.steps.as_slice() {
-        if !words.is_empty() {
-            words.push('/')?;
-        }
-        match step {
-            Step::Key(key) => words.push_str(key.text())?,
-            Step::Index(index) => words.push_str(index.to_string(alloc)?.as_str())?,
-        }
-    }
-    if words.is_empty() {
-        words.push_str("file")?;
-    }
-    words.push_str(match fault.reason {
-        Reason::NotJson => ": not json",
-        Reason::Missing => ": missing",
-        Reason::Unknown => ": unknown",
-        Reason::WrongKind => ": wrong kind",
-        Reason::OutOfRange => ": out of range",
-        Reason::Conflict => ": conflict",
-    })?;
-    Ok(words)
-}
-
 /// The words of the fault that bytes have, and nothing where they have none.
 fn refusal_of(alloc: Global, bytes: &[u8]) -> Result<String, Fail> {
     match read_settings(alloc, bytes) {
@@ -118,39 +92,46 @@ fn reads_one_handset(rt: HostRuntime) -> Result<(), Fail> {
     Ok(())
 }
 
+/// A text in the settings, what stands in its place, and the fault of the settings after that.
+const FAULTS: [(&str, &str, &str); 14] = [
+    ("}]}]}", "}]}]}", ""),
+    (SETTINGS, "", "file: not json"),
+    (SETTINGS, "[]", "file: wrong kind"),
+    (
+        r#"{"version":1"#,
+        r#"{"version":1,"colour":1"#,
+        "file: unknown",
+    ),
+    (r#","mu":1"#, "", "mu: missing"),
+    (SETTINGS, NO_HANDSETS, "handsets: missing"),
+    (r#""mu":1"#, r#""mu":-1"#, "mu: wrong kind"),
+    (r#""mu":1"#, r#""mu":70000"#, "mu: out of range"),
+    (r#""mu":1"#, r#""mu":4"#, "mu: out of range"),
+    ("17", "65520", "handsets/0/rnti: out of range"),
+    ("}]}]}", r#"}],"colour":1}]}"#, "handsets/0: unknown"),
+    (
+        "[0,0,0,1,0]",
+        "[0,0,0,0,1]",
+        "handsets/0/sets/0/candidates: conflict",
+    ),
+    (
+        "[0,0,0,1,0]",
+        r#"[0,0,0,1,0],"base":1"#,
+        "handsets/0/sets/0/base: conflict",
+    ),
+    ("}]}]}", TWIN, "handsets/1/rnti: conflict"),
+];
+
+/// The words of the fault of settings after an edit.
+fn refusal_after(alloc: Global, settings: &str, old: &str, new: &str) -> Result<String, Fail> {
+    let text = settings.replace(alloc, old, new)?;
+    refusal_of(alloc, text.as_str().as_bytes())
+}
+
 #[test]
 fn names_the_first_fault(rt: HostRuntime) -> Result<(), Fail> {
-    let rows = [
-        ("}]}]}", "}]}]}", ""),
-        (SETTINGS, "", "file: not json"),
-        (SETTINGS, "[]", "file: wrong kind"),
-        (
-            r#"{"version":1"#,
-            r#"{"version":1,"colour":1"#,
-            "file: unknown",
-        ),
-        (r#","mu":1"#, "", "mu: missing"),
-        (SETTINGS, NO_HANDSETS, "handsets: missing"),
-        (r#""mu":1"#, r#""mu":-1"#, "mu: wrong kind"),
-        (r#""mu":1"#, r#""mu":70000"#, "mu: out of range"),
-        (r#""mu":1"#, r#""mu":4"#, "mu: out of range"),
-        ("17", "65520", "handsets/0/rnti: out of range"),
-        ("}]}]}", r#"}],"colour":1}]}"#, "handsets/0: unknown"),
-        (
-            "[0,0,0,1,0]",
-            "[0,0,0,0,1]",
-            "handsets/0/sets/0/candidates: conflict",
-        ),
-        (
-            "[0,0,0,1,0]",
-            r#"[0,0,0,1,0],"base":1"#,
-            "handsets/0/sets/0/base: conflict",
-        ),
-        ("}]}]}", TWIN, "handsets/1/rnti: conflict"),
-    ];
-    for (old, new, fault) in rows {
-        let text = SETTINGS.replace(rt.alloc(), old, new)?;
-        let found = refusal_of(rt.alloc(), text.as_str().as_bytes())?;
+    for (old, new, fault) in FAULTS {
+        let found = refusal_after(rt.alloc(), SETTINGS, old, new)?;
         assert_eq!(rt; found.as_str(), fault);
     }
     Ok(())

@@ -6,6 +6,3 @@ pub mod laws;
 mod monitored;
 
 pub use alignment::sizes;
-
-#[cfg(test)]
-mod tests;

@@ -4,6 +4,3 @@
 mod places;
 
 pub use places::{Grid, Point};
-
-#[cfg(test)]
-mod tests;

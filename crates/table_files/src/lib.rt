@@ -8,6 +8,3 @@ mod tables;
 
 pub use fault::TableFault;
 pub use tables::{InputOrder, Reliability, Tables, read_input_order, read_reliability};
-
-#[cfg(test)]
-mod tests;

@@ -1,9 +1,8 @@
 //! Searches of texts that are no grid's, and of grids that are not of the settings or not served yet. A second program, written
 //! apart from this one, gave the same lines.
-use super::{POINTS, SETTINGS, files, grid, table, words};
+use super::{POINTS, SETTINGS, Want, check, files, grid, table};
 use crate::status::Status;
-use crate::top::run;
-use outside::{MemoryShelf, MemorySink, NamedBytes};
+use outside::MemoryShelf;
 use std::alloc::{AllocError, Global};
 use std::process::Abort;
 use std::test::Fail;
@@ -88,32 +87,26 @@ fn blank(alloc: Global, mu: u16, frame: u16, blocks: u16) -> Result<String, Allo
 fn refuse<R: Threads + Sync + Abort>(
     rt: &R,
     alloc: Global,
-    bytes: &[u8],
+    text: &str,
     status: Status,
     end: &str,
 ) -> Result<(), Fail> {
-    let list = words(alloc, &["search", "s", "r", "i", "g"])?;
     let reliability = table(alloc, 1024, true)?;
-    let mut objects = files(alloc, SETTINGS, reliability.as_str(), "")?;
-    let _ = objects.pop();
-    objects.push(NamedBytes {
-        name: String::from_str(alloc, "g")?,
-        bytes: Vec::from_slice(alloc, bytes)?,
-    })?;
-    let mut shelf = MemoryShelf::new(objects, Vec::new(alloc));
-    let mut out = MemorySink::new(alloc, 1_048_576, 1_048_576, Vec::new(alloc))?;
-    let mut err = MemorySink::new(alloc, 1_048_576, 1_048_576, Vec::new(alloc))?;
-    let answer = run(rt, alloc, &list, &mut shelf, &mut out, &mut err);
+    let objects = files(alloc, SETTINGS, reliability.as_str(), text)?;
     let begin = if status == Status::NotBuilt {
         "error: not built: "
     } else {
         "error: grid: "
     };
     let line = format!(in alloc; "{begin}{end}")?;
-    assert_eq!(rt; answer, status, "{end}");
-    assert!(rt; out.bytes().is_empty(), "{end}");
-    assert_eq!(rt; err.bytes(), line.as_bytes(), "{end}");
-    Ok(())
+    let want = Want {
+        case: end,
+        status,
+        out: "",
+        err: line.as_str(),
+    };
+    let shelf = MemoryShelf::new(objects, Vec::new(alloc));
+    check(rt, alloc, "search s r i g", shelf, want)
 }
 
 #[test]
@@ -122,8 +115,8 @@ fn edited(rt: HostRuntime) -> Result<(), Fail> {
     let text = grid(alloc, POINTS)?;
     for edits in [OF_THE_HEAD.as_slice(), OF_THE_REST.as_slice()] {
         for (old, new, status, end) in edits {
-            let bytes = text.replace(alloc, old, new)?;
-            refuse(&rt, alloc, bytes.as_bytes(), *status, end)?;
+            let edited = text.replace(alloc, old, new)?;
+            refuse(&rt, alloc, edited.as_str(), *status, end)?;
         }
     }
     Ok(())
@@ -134,10 +127,9 @@ fn cut(rt: HostRuntime) -> Result<(), Fail> {
     let alloc = rt.alloc();
     let text = grid(alloc, POINTS)?;
     for length in CUTS {
-        assert!(rt; length < text.len());
-        let line = format!(in alloc; "byte {length}\n")?;
-        let cut = &text.as_bytes()[..length];
-        refuse(&rt, alloc, cut, Status::GridRefused, line.as_str())?;
+        let cut = text.as_str().get(..length).ok_or("no such cut")?;
+        let end = format!(in alloc; "byte {length}\n")?;
+        refuse(&rt, alloc, cut, Status::GridRefused, end.as_str())?;
     }
     Ok(())
 }
@@ -147,7 +139,7 @@ fn of_other_settings(rt: HostRuntime) -> Result<(), Fail> {
     let alloc = rt.alloc();
     for (mu, frame, blocks, end) in BLANKS {
         let text = blank(alloc, mu, frame, blocks)?;
-        refuse(&rt, alloc, text.as_bytes(), Status::GridRefused, end)?;
+        refuse(&rt, alloc, text.as_str(), Status::GridRefused, end)?;
     }
     Ok(())
 }

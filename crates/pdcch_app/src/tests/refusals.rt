@@ -1,9 +1,8 @@
 //! Runs that are refused, each with its status and its line.
-use super::{GRANTS, SETTINGS, files, table};
+use super::{GRANTS, SETTINGS, Want, check, files, table};
 use crate::status::Status;
-use crate::top::run;
-use outside::{MemoryShelf, MemorySink};
-use std::alloc::Global;
+use outside::MemoryShelf;
+use std::alloc::{AllocError, Global};
 use std::process::Abort;
 use std::test::Fail;
 use std::thread::Threads;
@@ -440,49 +439,60 @@ const OF_GRANTS: [Case; 19] = [
     ),
 ];
 
-/// Runs each case, which is to print its line on the error output and nothing on the output.
-fn refuse<R: Threads + Sync + Abort>(rt: &R, alloc: Global, cases: &[Case]) -> Result<(), Fail> {
+/// A text with an edit, where there is one.
+fn edited(alloc: Global, text: &str, old: &str, new: &str) -> Result<String, AllocError> {
+    if old.is_empty() {
+        String::from_str(alloc, text)
+    } else {
+        text.replace(alloc, old, new)
+    }
+}
+
+/// Runs a case, which is to print its line on the error output and nothing on the output.
+fn refuse<R: Threads + Sync + Abort>(rt: &R, alloc: Global, case: Case) -> Result<(), Fail> {
+    let (line, failing, old, new, status, refusal) = case;
+    let settings = edited(alloc, SETTINGS, old, new)?;
+    let grants = edited(alloc, GRANTS, old, new)?;
     let reliability = table(alloc, 1024, true)?;
+    let objects = files(
+        alloc,
+        settings.as_str(),
+        reliability.as_str(),
+        grants.as_str(),
+    )?;
+    let shelf = MemoryShelf::new(objects, vec![in alloc; failing]?);
+    let want = Want {
+        case: new,
+        status,
+        out: "",
+        err: refusal,
+    };
+    check(rt, alloc, line, shelf, want)
+}
+
+/// Runs each case.
+fn refuse_all<R: Threads + Sync + Abort>(
+    rt: &R,
+    alloc: Global,
+    cases: &[Case],
+) -> Result<(), Fail> {
     for case in cases {
-        let (line, failing, old, new, status, refusal) = *case;
-        let mut settings = String::from_str(alloc, SETTINGS)?;
-        let mut grants = String::from_str(alloc, GRANTS)?;
-        if !old.is_empty() {
-            settings = settings.replace(alloc, old, new)?;
-            grants = grants.replace(alloc, old, new)?;
-        }
-        let mut list = Vec::new(alloc);
-        for word in line.split(' ') {
-            list.push(String::from_str(alloc, word)?)?;
-        }
-        let objects = files(
-            alloc,
-            settings.as_str(),
-            reliability.as_str(),
-            grants.as_str(),
-        )?;
-        let mut shelf = MemoryShelf::new(objects, vec![in alloc; failing]?);
-        let mut out = MemorySink::new(alloc, 1_048_576, 1_048_576, Vec::new(alloc))?;
-        let mut err = MemorySink::new(alloc, 1_048_576, 1_048_576, Vec::new(alloc))?;
-        let answer = run(rt, alloc, &list, &mut shelf, &mut out, &mut err);
-        assert_eq!(rt; answer, status, "{line} {new}");
-        assert!(rt; out.bytes().is_empty(), "{line} {new}");
-        assert_eq!(rt; err.bytes(), refusal.as_bytes(), "{line} {new}");
+        refuse(rt, alloc, *case)?;
     }
     Ok(())
 }
 
 #[test]
 fn words_and_forms(rt: HostRuntime) -> Result<(), Fail> {
-    refuse(&rt, rt.alloc(), &WORDS)
+    refuse_all(&rt, rt.alloc(), &WORDS)
 }
 
 #[test]
 fn settings(rt: HostRuntime) -> Result<(), Fail> {
-    refuse(&rt, rt.alloc(), &OF_SETTINGS)
+    refuse_all(&rt, rt.alloc(), &OF_SETTINGS)
 }
 
 #[test]
 fn grants(rt: HostRuntime) -> Result<(), Fail> {
-    refuse(&rt, rt.alloc(), &OF_GRANTS)
+    refuse_all(&rt, rt.alloc(), &OF_GRANTS)
 }

@@ -1,9 +1,11 @@
 //! Tables of every kind, and files of the greatest length.
-use super::{DESCENDING, GRANTS, POINTS, SETTINGS, files, grid, table, words};
+use super::{DESCENDING, GRANTS, POINTS, SETTINGS, Want, check, files, grid, table};
 use crate::status::Status;
-use crate::top::run;
-use outside::{MemoryShelf, MemorySink};
+use outside::MemoryShelf;
+use std::alloc::Global;
+use std::process::Abort;
 use std::test::Fail;
+use std::thread::Threads;
 
 /// What is said of a handset that heard nothing, and of one that heard the grant.
 const NOTHING: &str = "frame 0 slot 0\nhandset alpha watches 1 heard 0\n";
@@ -11,35 +13,72 @@ const NOTHING: &str = "frame 0 slot 0\nhandset alpha watches 1 heard 0\n";
 const GRANT: &str =
     "frame 0 slot 0\nhandset alpha watches 1 heard 1\nset 1 symbol 0 level 8 candidate 0 size 39 rnti 0011 1_0 fdra=101 tdra=2 vrb=0 mcs=10 ndi=1 rv=0 harq=3 dai=0 tpc=1 pucch=5 timing=3\n";
 
+/// Whether the table of reliabilities ascends, whether the points are those of the ascending one, the identity, and what is heard.
+const SEARCHES: [(bool, bool, &str, &str); 4] = [
+    (false, false, "17", GRANT),
+    (false, true, "17", NOTHING),
+    (true, false, "17", NOTHING),
+    (true, true, "18", NOTHING),
+];
+
+/// The points with the table in ascending or in descending order.
+fn points_of(ascending: bool) -> &'static str {
+    if ascending { POINTS } else { DESCENDING }
+}
+
 #[test]
-fn other_tables(rt: HostRuntime) -> Result<(), Fail> {
+fn searches(rt: HostRuntime) -> Result<(), Fail> {
     let alloc = rt.alloc();
-    let descending = table(alloc, 1024, false)?;
-    let ascending = table(alloc, 1024, true)?;
-    let loose = ascending.replace(alloc, " ", " ,\r\n\t00")?;
-    let own = grid(alloc, DESCENDING)?;
-    let other = grid(alloc, POINTS)?;
-    let cases = [
-        ("write", "17", descending.as_str(), GRANTS, own.as_str()),
-        ("write", "17", loose.as_str(), GRANTS, other.as_str()),
-        ("search", "17", descending.as_str(), own.as_str(), GRANT),
-        ("search", "17", descending.as_str(), other.as_str(), NOTHING),
-        ("search", "17", ascending.as_str(), own.as_str(), NOTHING),
-        ("search", "18", ascending.as_str(), other.as_str(), NOTHING),
-    ];
-    for (command, rnti, reliability, last, want) in cases {
-        let list = words(alloc, &[command, "s", "r", "i", "g"])?;
+    for (ascending, points, rnti, report) in SEARCHES {
         let settings = SETTINGS.replace(alloc, "17", rnti)?;
-        let objects = files(alloc, settings.as_str(), reliability, last)?;
-        let mut shelf = MemoryShelf::new(objects, Vec::new(alloc));
-        let mut out = MemorySink::new(alloc, 1_048_576, 1_048_576, Vec::new(alloc))?;
-        let mut err = MemorySink::new(alloc, 1_048_576, 1_048_576, Vec::new(alloc))?;
-        let status = run(&rt, alloc, &list, &mut shelf, &mut out, &mut err);
-        assert_eq!(rt; status, Status::Done, "{command} {rnti}");
-        assert_eq!(rt; out.bytes(), want.as_bytes(), "{command} {rnti}");
-        assert!(rt; err.bytes().is_empty(), "{command} {rnti}");
+        let reliability = table(alloc, 1024, ascending)?;
+        let text = grid(alloc, points_of(points))?;
+        let objects = files(
+            alloc,
+            settings.as_str(),
+            reliability.as_str(),
+            text.as_str(),
+        )?;
+        let shelf = MemoryShelf::new(objects, Vec::new(alloc));
+        let want = Want {
+            case: rnti,
+            status: Status::Done,
+            out: report,
+            err: "",
+        };
+        check(&rt, alloc, "search s r i g", shelf, want)?;
     }
     Ok(())
+}
+
+/// Writes the grid with a text of the table, which is to give these points.
+fn check_written<R: Threads + Sync + Abort>(
+    rt: &R,
+    alloc: Global,
+    settings: &str,
+    reliability: &str,
+    points: &str,
+) -> Result<(), Fail> {
+    let text = grid(alloc, points)?;
+    let objects = files(alloc, settings, reliability, GRANTS)?;
+    let shelf = MemoryShelf::new(objects, Vec::new(alloc));
+    let want = Want {
+        case: "a grid",
+        status: Status::Done,
+        out: text.as_str(),
+        err: "",
+    };
+    check(rt, alloc, "write s r i g", shelf, want)
+}
+
+#[test]
+fn other_texts_of_tables(rt: HostRuntime) -> Result<(), Fail> {
+    let alloc = rt.alloc();
+    let descending = table(alloc, 1024, false)?;
+    check_written(&rt, alloc, SETTINGS, descending.as_str(), DESCENDING)?;
+    let ascending = table(alloc, 1024, true)?;
+    let loose = ascending.as_str().replace(alloc, " ", " ,\r\n\t00")?;
+    check_written(&rt, alloc, SETTINGS, loose.as_str(), POINTS)
 }
 
 /// An edit of the table in ascending order, and the line on it.
@@ -67,21 +106,33 @@ const FAULTS: [(&str, &str, &str); 5] = [
     ),
 ];
 
+/// Writes a grid, which is to be refused with this line.
+fn refuse<R: Threads + Sync + Abort>(
+    rt: &R,
+    alloc: Global,
+    settings: &str,
+    reliability: &str,
+    (status, line): (Status, &str),
+) -> Result<(), Fail> {
+    let objects = files(alloc, settings, reliability, GRANTS)?;
+    let shelf = MemoryShelf::new(objects, Vec::new(alloc));
+    let want = Want {
+        case: line,
+        status,
+        out: "",
+        err: line,
+    };
+    check(rt, alloc, "write s r i g", shelf, want)
+}
+
 #[test]
 fn table_faults(rt: HostRuntime) -> Result<(), Fail> {
     let alloc = rt.alloc();
-    let list = words(alloc, &["write", "s", "r", "i", "g"])?;
     let ascending = table(alloc, 1024, true)?;
     for (old, new, line) in FAULTS {
-        let reliability = ascending.replace(alloc, old, new)?;
-        let objects = files(alloc, SETTINGS, reliability.as_str(), GRANTS)?;
-        let mut shelf = MemoryShelf::new(objects, Vec::new(alloc));
-        let mut out = MemorySink::new(alloc, 1_048_576, 1_048_576, Vec::new(alloc))?;
-        let mut err = MemorySink::new(alloc, 1_048_576, 1_048_576, Vec::new(alloc))?;
-        let status = run(&rt, alloc, &list, &mut shelf, &mut out, &mut err);
-        assert_eq!(rt; status, Status::TableRefused, "{line}");
-        assert!(rt; out.bytes().is_empty(), "{line}");
-        assert_eq!(rt; err.bytes(), line.as_bytes());
+        let reliability = ascending.as_str().replace(alloc, old, new)?;
+        let refused = (Status::TableRefused, line);
+        refuse(&rt, alloc, SETTINGS, reliability.as_str(), refused)?;
     }
     Ok(())
 }
@@ -90,32 +141,12 @@ fn table_faults(rt: HostRuntime) -> Result<(), Fail> {
 fn lengths(rt: HostRuntime) -> Result<(), Fail> {
     let alloc = rt.alloc();
     let ascending = table(alloc, 1024, true)?;
-    let mut longest = String::from_str(alloc, SETTINGS)?;
+    let mut settings = String::from_str(alloc, SETTINGS)?;
     for _ in SETTINGS.len()..8_388_608 {
-        longest.push(' ')?;
+        settings.push(' ')?;
     }
-    let mut longer = longest.clone()?;
-    longer.push(' ')?;
-    let whole = grid(alloc, POINTS)?;
-    let cases = [
-        (longest.as_str(), Status::Done, whole.as_str(), ""),
-        (
-            longer.as_str(),
-            Status::FileTooLong,
-            "",
-            "error: too long: s\n",
-        ),
-    ];
-    let list = words(alloc, &["write", "s", "r", "i", "g"])?;
-    for (settings, status, text, line) in cases {
-        let objects = files(alloc, settings, ascending.as_str(), GRANTS)?;
-        let mut shelf = MemoryShelf::new(objects, Vec::new(alloc));
-        let mut out = MemorySink::new(alloc, 1_048_576, 1_048_576, Vec::new(alloc))?;
-        let mut err = MemorySink::new(alloc, 1_048_576, 1_048_576, Vec::new(alloc))?;
-        let answer = run(&rt, alloc, &list, &mut shelf, &mut out, &mut err);
-        assert_eq!(rt; answer, status, "{line}");
-        assert_eq!(rt; out.bytes(), text.as_bytes());
-        assert_eq!(rt; err.bytes(), line.as_bytes());
-    }
-    Ok(())
+    check_written(&rt, alloc, settings.as_str(), ascending.as_str(), POINTS)?;
+    settings.push(' ')?;
+    let refused = (Status::FileTooLong, "error: too long: s\n");
+    refuse(&rt, alloc, settings.as_str(), ascending.as_str(), refused)
 }

@@ -1,5 +1,5 @@
 //! Settings of two handsets that are right, and edits that put one or two faults into them.
-use crate::read::refusal_of;
+use crate::read::refusal_after;
 use std::alloc::Global;
 use std::process::Abort;
 use std::test::Fail;
@@ -37,8 +37,7 @@ pub const SETTINGS: &str =
 /// The words of the fault of the settings after an edit and a second edit, whose fault comes later.
 fn refusal_of_two(alloc: Global, edit: (&str, &str), later: (&str, &str)) -> Result<String, Fail> {
     let text = SETTINGS.replace(alloc, later.0, later.1)?;
-    let text = text.as_str().replace(alloc, edit.0, edit.1)?;
-    refusal_of(alloc, text.as_str().as_bytes())
+    refusal_after(alloc, text.as_str(), edit.0, edit.1)
 }
 
 /// Checks that each edit's fault is found though the last edit is made too.

@@ -1,7 +1,9 @@
 //! What JSON reads: whole numbers, texts that are no JSON, and settings that are right in other words.
 use crate::read::edits::{Edit, LAST_SHAPE, SETTINGS, check_each, check_in_order};
-use crate::read::refusal_of;
+use crate::read::{refusal_after, refusal_of};
+use rrc_settings::Cell;
 use settings_json::read_settings;
+use std::alloc::{AllocError, Global};
 use std::test::Fail;
 
 /// Numbers that are no whole numbers of 16 bits.
@@ -142,41 +144,61 @@ const NO_UTF8: [&[u8]; 4] = [
 fn json_as_it_is_read(rt: HostRuntime) -> Result<(), Fail> {
     check_in_order(&rt, rt.alloc(), &NUMBERS, LAST_SHAPE)?;
     check_each(&rt, rt.alloc(), &NO_JSON, LAST_SHAPE)?;
+    Ok(())
+}
+
+#[test]
+fn bytes_that_are_no_text(rt: HostRuntime) -> Result<(), Fail> {
     for bytes in NO_UTF8 {
-        assert_eq!(rt; refusal_of(rt.alloc(), bytes)?.as_str(), "file: not json");
+        let found = refusal_of(rt.alloc(), bytes)?;
+        assert_eq!(rt; found.as_str(), "file: not json");
     }
     Ok(())
+}
+
+/// The member `mu` with a value of so many lists, one in the other.
+fn nested(alloc: Global, lists: usize) -> Result<String, AllocError> {
+    let mut value = String::from_str(alloc, r#""mu":"#)?;
+    for _list in 0..lists {
+        value.push('[')?;
+    }
+    for _list in 0..lists {
+        value.push(']')?;
+    }
+    Ok(value)
 }
 
 #[test]
 fn nests_at_most_127_deep(rt: HostRuntime) -> Result<(), Fail> {
     for (lists, fault) in [(126, "mu: wrong kind"), (127, "file: not json")] {
-        let mut value = String::new(rt.alloc());
-        value.push_str(r#""mu":"#)?;
-        value.push_str("[".repeat(rt.alloc(), lists)?.as_str())?;
-        value.push_str("]".repeat(rt.alloc(), lists)?.as_str())?;
-        let text = SETTINGS.replace(rt.alloc(), r#""mu":1"#, value.as_str())?;
-        assert_eq!(rt;
-            refusal_of(rt.alloc(), text.as_str().as_bytes())?.as_str(),
-            fault
-        );
+        let value = nested(rt.alloc(), lists)?;
+        let found = refusal_after(rt.alloc(), SETTINGS, r#""mu":1"#, value.as_str())?;
+        assert_eq!(rt; found.as_str(), fault);
+    }
+    Ok(())
+}
+
+/// Whether the settings are read as this cell after an edit.
+fn is_read_as(alloc: Global, cell: &Cell, old: &str, new: &str) -> Result<bool, Fail> {
+    let text = SETTINGS.replace(alloc, old, new)?;
+    let read = read_settings(alloc, text.as_str().as_bytes())?;
+    Ok(read == *cell)
+}
+
+#[test]
+fn other_texts_of_the_same_settings(rt: HostRuntime) -> Result<(), Fail> {
+    let cell = read_settings(rt.alloc(), SETTINGS.as_bytes())?;
+    for (old, new) in SAME {
+        let same = is_read_as(rt.alloc(), &cell, old, new)?;
+        assert!(rt; same, "after {new}");
     }
     Ok(())
 }
 
 #[test]
 fn settings_that_are_right(rt: HostRuntime) -> Result<(), Fail> {
-    let cell = read_settings(rt.alloc(), SETTINGS.as_bytes())?;
-    for (old, new) in SAME {
-        let text = SETTINGS.replace(rt.alloc(), old, new)?;
-        assert!(rt;
-            read_settings(rt.alloc(), text.as_str().as_bytes())? == cell,
-            "after {new}"
-        );
-    }
     for (old, new) in EDGES {
-        let text = SETTINGS.replace(rt.alloc(), old, new)?;
-        let found = refusal_of(rt.alloc(), text.as_str().as_bytes())?;
+        let found = refusal_after(rt.alloc(), SETTINGS, old, new)?;
         assert_eq!(rt; found.as_str(), "", "after {new}");
     }
     Ok(())

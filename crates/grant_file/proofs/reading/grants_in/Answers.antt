@@ -1,17 +1,18 @@
 use Rattle.std.proofs.Common.{arith}
 use Rattle.std.proofs.lemmas.Grind.{common_steps}
-use Rattle.settings_json.proofs.Elements.{take_view_next}
+use Rattle.std.specs.Prelude.{Some}
+use Rattle.settings_json.proofs.Elements.{first_from_view_next, take_view_next}
+use Rattle.grant_file.specs.Faults.{whole_at}
 use Rattle.grant_file.specs.Lists.{IsReadGrant}
 use Rattle.grant_file.specs.Shapes.{judge_grant}
 use Rattle.grant_file.specs.Values.{grant_value}
-use Rattle.grant_file.proofs.Elements.{first_from_view_next}
 use Rattle.grant_file.proofs.Lists.{all_and_one}
 use Rattle.grant_file.proofs.reading.grants_in.Goals as goal
 
 pub returns-in_err-grant_of : goal.returns-in_err-grant_of
 returns-in_err-grant_of c =
     let e = c.in_err-grant_of.ensures.read in
-    let n = first_from_view_next judge_grant c.args.values.now c.loop-index.index c.index-values-index.result c.loop-index-test.true in
+    let n = first_from_view_next (λ n. judge_grant (whole_at (Some n))) c.args.values.now c.loop-index.index c.index-values-index.result c.loop-index-test.true in
     let i = c.index-values-index.is in
     grind (arith, common_steps)
 
@@ -25,7 +26,7 @@ loop-index-preserved c =
     let k = c.loop-index.invariant.count in
     record {
       rest =
-          let n = first_from_view_next judge_grant c.args.values.now c.loop-index.index c.index-values-index.result c.loop-index-test.true in
+          let n = first_from_view_next (λ n. judge_grant (whole_at (Some n))) c.args.values.now c.loop-index.index c.index-values-index.result c.loop-index-test.true in
           grind (arith, common_steps);
       count = grind (arith, common_steps, c.in_ok-push.ensures.items);
       kept =

@@ -1,5 +1,4 @@
-use Rattle.std.proofs.Common.{◌≡◌, ℕ, ◌+◌, ◌<◌, ◌≤◌, List, ◌++◌, true, false, cond, All, length, Result, Ok, Err, sym, ap, ◌∙◌, subst, arith}
-use Rattle.arrayvec.specs.ArrayVec.{ArrayVec}
+use Rattle.std.proofs.Common.{◌≡◌, ℕ, ◌<◌, List, ◌++◌, true, false, All, length, Result, Ok, Err, sym, ap, ◌∙◌, subst, arith}
 use Rattle.rrc_settings.specs.HandsetsOfCell.{handset_at}
 use Rattle.monitor_budget.specs.declared.allotment.Allotment.{Allotment}
 use Rattle.monitor_budget.specs.declared.allotment.CommonOver.{CommonOver}

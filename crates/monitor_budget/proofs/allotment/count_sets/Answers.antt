@@ -1,4 +1,4 @@
-use Rattle.std.proofs.Common.{◌≡◌, ℕ, ◌+◌, ◌*◌, ◌≤◌, List, length, take, get_or, sym, ap, subst, arith}
+use Rattle.std.proofs.Common.{ℕ, List, length, take, get_or, sym, ap, subst, arith}
 use Rattle.std.proofs.lemmas.List.{take_more}
 use Rattle.rrc_settings.specs.HandsetsOfCell.{handset_at}
 use Rattle.monitor_budget.specs.declared.counted.Counted.{Counted}

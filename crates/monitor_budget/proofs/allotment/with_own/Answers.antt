@@ -1,12 +1,11 @@
-use Rattle.std.proofs.Common.{◌≡◌, ℕ, ◌+◌, ◌≤◌, List, ◌++◌, ◌∷◌, [], true, false, length, take, get_or, sym, ap, ◌∙◌, subst, arith}
+use Rattle.std.proofs.Common.{◌≡◌, ℕ, ◌+◌, List, ◌++◌, ◌∷◌, [], true, take, get_or, sym, ap, ◌∙◌, subst, arith}
 use Rattle.std.proofs.lemmas.List.{append-nil}
-use Rattle.arrayvec.specs.ArrayVec.{ArrayVec}
 use Rattle.rrc_settings.specs.HandsetsOfCell.{handset_at}
 use Rattle.monitor_budget.specs.declared.allotment.Allotment.{Allotment}
 use Rattle.monitor_budget.specs.Tally.{Tallies}
 use Rattle.monitor_budget.specs.Allotting.{allotment_of, keep_limits}
 use Rattle.monitor_budget.proofs.Fronts.{front-all, front-stops}
-use Rattle.monitor_budget.proofs.Allotments.{AreCounts, are-counts, allotment-made, limits-are, few-seen, front-more, front-tallied}
+use Rattle.monitor_budget.proofs.Allotments.{are-counts, allotment-made, limits-are, few-seen, front-more, front-tallied}
 use Rattle.monitor_budget.proofs.allotment.with_own.Goals as goal
 
 pub loop-place-init : goal.loop-place-init

@@ -1,6 +1,7 @@
-use Rattle.std.proofs.Common.{◌≡◌, ◌+◌, ◌*◌, ◌≤◌, ◌++◌, slice_index, refl, ap, ◌∙◌, arith}
+use Rattle.std.proofs.Common.{◌≡◌, ◌++◌, slice_index, refl, ap, ◌∙◌, arith}
 use Rattle.search_starts.specs.Starts.{start_of}
-use Rattle.monitor_budget.specs.SetCandidates.{level_at, numbered_candidates, level_candidates}
+use Rattle.rrc_settings.specs.AggregationLevels.{level_at}
+use Rattle.monitor_budget.specs.SetCandidates.{numbered_candidates, level_candidates}
 use Rattle.monitor_budget.proofs.Ranges.{pushed_more, pushed_all}
 use Rattle.monitor_budget.proofs.Made.{numbered_made}
 use Rattle.monitor_budget.proofs.candidates.push_level.Goals as goal

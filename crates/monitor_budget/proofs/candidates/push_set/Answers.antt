@@ -1,4 +1,4 @@
-use Rattle.std.proofs.Common.{◌≡◌, ◌+◌, ◌*◌, ◌≤◌, arith, sym, ap, ◌∙◌, ◌++◌, length}
+use Rattle.std.proofs.Common.{◌≡◌, arith, sym, ap, ◌∙◌, ◌++◌, length}
 use Rattle.std.specs.List.{range_with_len, flat_map, filter}
 use Rattle.arrayvec.specs.ArrayVec.{ArrayVec}
 use Rattle.monitor_budget.specs.declared.candidates.Candidate.{Candidate}

@@ -1,4 +1,4 @@
-use Rattle.std.proofs.Common.{◌≡◌, ◌+◌, ◌*◌, ◌≤◌, arith}
+use Rattle.std.proofs.Common.{arith}
 use Rattle.monitor_budget.specs.SetCandidates.{level_candidates, symbol_candidates}
 use Rattle.monitor_budget.proofs.Ranges.{pushed_more, pushed_all}
 use Rattle.monitor_budget.proofs.candidates.push_symbol.Goals as goal

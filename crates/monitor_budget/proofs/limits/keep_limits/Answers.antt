@@ -1,4 +1,4 @@
-use Rattle.std.proofs.Common.{ℕ, ◌≤◌, sym, subst}
+use Rattle.std.proofs.Common.{◌≤◌, sym, subst}
 use Rattle.rrc_settings.specs.declared.settings.RawCell.{RawCell}
 use Rattle.monitor_budget.proofs.LegalSearchSets.{legal-mu}
 use Rattle.monitor_budget.proofs.limits.keep_limits.Goals as goal

@@ -1,6 +1,6 @@
-use Rattle.std.proofs.Common.{◌≡◌, sym, ap, ◌∙◌}
+use Rattle.std.proofs.Common.{ap, ◌∙◌}
 use Rattle.rrc_settings.specs.declared.settings.Coreset.{Coreset}
-use Rattle.coreset_map.specs.ControlResources.{Resources, cce_count}
+use Rattle.coreset_map.specs.ControlResources.{cce_count}
 use Rattle.rrc_settings.specs.HandsetsOfCell.{handset_at}
 use Rattle.coreset_map.specs.ResourcesOfCell.{resources_in}
 use Rattle.monitor_budget.specs.Counts.{set_at}

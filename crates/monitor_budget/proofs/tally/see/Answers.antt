@@ -1,4 +1,4 @@
-use Rattle.std.proofs.Common.{List, sym, ◌∙◌, ap}
+use Rattle.std.proofs.Common.{List, ◌∙◌, ap}
 use Rattle.std.specs.List.{list_any}
 use Rattle.monitor_budget.specs.declared.counted.Counted.{Counted}
 use Rattle.monitor_budget.specs.contracts.counted.CountedPartialEq.TheImpl as counted

@@ -1,9 +1,8 @@
-use Rattle.std.proofs.Common.{◌≡◌, sym, ap, ◌∙◌, subst}
+use Rattle.std.proofs.Common.{sym, ap, ◌∙◌, subst}
 use Rattle.rrc_settings.specs.declared.settings.Handset.{Handset}
 use Rattle.rrc_settings.specs.declared.settings.SearchSet.{SearchSet}
 use Rattle.rrc_settings.specs.declared.settings.SetKind.{SetKind}
 use Rattle.dci_fields.specs.declared.sizes.Sizes.{Sizes}
-use Rattle.dci_fields.specs.Alignment.{sizes_of}
 use Rattle.rrc_settings.specs.HandsetsOfCell.{handset_at}
 use Rattle.monitor_budget.specs.Counts.{set_at}
 use Rattle.monitor_plan.specs.Watches.{down_format, down_size, widths_in}

@@ -1,4 +1,4 @@
-use Rattle.std.proofs.Common.{◌≡◌, ℕ, sym, ap, ◌∙◌}
+use Rattle.std.proofs.Common.{ap, ◌∙◌}
 use Rattle.rrc_settings.specs.declared.settings.Handset.{Handset}
 use Rattle.coreset_map.specs.ControlResources.{Resources}
 use Rattle.coreset_map.specs.Candidates.{candidate_regs}

@@ -1,8 +1,8 @@
-use Rattle.std.proofs.Common.{◌≡◌, ℕ, List, ◌++◌, ◌∙◌, sym, ap}
+use Rattle.std.proofs.Common.{ℕ, ◌++◌, ◌∙◌, sym, ap}
 use Rattle.rrc_settings.specs.HandsetsOfCell.{handset_at}
 use Rattle.monitor_budget.specs.Counts.{set_at}
 use Rattle.monitor_plan.specs.Watches.{set_watches}
-use Rattle.monitor_plan.proofs.WatchParts.{watches-none, watches-more, watches-all}
+use Rattle.monitor_plan.proofs.WatchParts.{watches-none, watches-more}
 use Rattle.monitor_plan.proofs.plan.watches_of.Goals as goal
 
 pub loop-place-init : goal.loop-place-init

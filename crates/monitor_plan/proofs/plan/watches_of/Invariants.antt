@@ -1,7 +1,5 @@
 use Rattle.std.proofs.Common.{◌≡◌, take}
-use Rattle.std.specs.List.{flat_map}
 use Rattle.rrc_settings.specs.HandsetsOfCell.{handset_at}
-use Rattle.monitor_budget.specs.Counts.{set_at}
 use Rattle.monitor_plan.specs.Watches.{watches_of}
 use Rattle.monitor_plan.proofs.plan.watches_of.Given as goal
 

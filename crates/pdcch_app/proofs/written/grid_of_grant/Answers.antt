@@ -1,29 +1,23 @@
-use Rattle.std.proofs.Common.{sym, ◌∙◌}
-use Rattle.pdcch_app.proofs.FirstWatches.{first_down, first_length}
-use Rattle.pdcch_app.proofs.Writings.{block_fits, bits_fit, written-from}
+use Rattle.std.proofs.Common.{refl, ◌∙◌}
+use Rattle.dci_fields.specs.declared.formats.Format.TheVariants.{F10}
+use Rattle.monitor_plan.specs.Watch.{list_of}
+use Rattle.pdcch_app.proofs.FirstWatches.{first_fits, first_rows}
+use Rattle.pdcch_app.proofs.GrantPayloads.{no_fault}
+use Rattle.pdcch_app.proofs.Writings.{written-from}
 use Rattle.pdcch_app.proofs.written.grid_of_grant.Goals as goal
 
-pub payload_at-requires-clause-fields : goal.payload_at-requires-clause-fields
-payload_at-requires-clause-fields c = first_down c.args.cell.now c.first_watch-watch.result.now c.requires.first (c.first_watch-watch.ensures.watch ∙ c.in_ok-plan.ensures.watch)
+pub spell-requires-clause-fitting : goal.spell-requires-clause-fitting
+spell-requires-clause-fitting c =
+    first_fits c.args.cell.now c.first_watch-watch.result.now c.requires.first (c.first_watch-watch.ensures.watch ∙ c.in_ok-plan.ensures.watch)
 
-pub payload_at-requires-clause-size : goal.payload_at-requires-clause-size
-payload_at-requires-clause-size c = first_length c.args.cell.now c.first_watch-watch.result.now c.requires.first (c.first_watch-watch.ensures.watch ∙ c.in_ok-plan.ensures.watch)
-
-pub encode-requires : goal.encode-requires
-encode-requires c =
-    block_fits c.args.tables.now.reliability c.args.tables.now.input_order c.first_watch-watch.result.now c.code_at-code.result c.payload_at.result c.attach-block.result
-    c.code_at-code.ensures.tables
-    (c.payload_at.ensures.size ∙ sym (first_length c.args.cell.now c.first_watch-watch.result.now c.requires.first (c.first_watch-watch.ensures.watch ∙ c.in_ok-plan.ensures.watch)))
-    c.attach-block.ensures.length
-
-pub put_bits-requires-clause-bits : goal.put_bits-requires-clause-bits
-put_bits-requires-clause-bits c =
-    bits_fit c.args.tables.now.reliability c.args.tables.now.input_order c.first_watch-watch.result.now c.code_at-code.result c.encode.result c.scramble-bits.result
-    c.first_watch-watch.ensures.sound c.code_at-code.ensures.tables c.encode.ensures.len c.scramble-bits.ensures
+pub unreachable-requires : goal.unreachable-requires
+unreachable-requires c =
+    let w = c.first_watch-watch.result.now in
+    no_fault c.args.grant.now (list_of w F10) c.given_by.result c.in-Err.field-0 c.requires.range
+    (first_rows c.args.cell.now w c.requires.first (c.first_watch-watch.ensures.watch ∙ c.in_ok-plan.ensures.watch)) c.given_by.ensures
+    ((c.in-Err.ensures.fault c.in-Err.field-0).0 refl)
 
 pub returns : goal.returns
 returns c =
-    c.put_bits.ensures.grid
-    ∙ written-from c.args.tables.now c.args.cell.now c.args.grant.now c.first_watch-watch.result.now c.payload_at.result c.attach-block.result c.encode.result
-    c.scramble-bits.result c.in_ok-grid.grid (c.first_watch-watch.ensures.watch ∙ c.in_ok-plan.ensures.watch) c.payload_at.ensures.payload c.attach-block.ensures.block
-    (c.encode.ensures.code ∙ c.code_at-code.ensures.code c.attach-block.result) c.scramble-bits.ensures c.in_ok-grid.ensures
+    written-from c.args.tables.now c.args.cell.now c.args.grant.now c.first_watch-watch.result.now c.given_by.result c.in_ok-grid.grid c.spell.new.grid
+    (c.first_watch-watch.ensures.watch ∙ c.in_ok-plan.ensures.watch) c.given_by.ensures c.in_ok-grid.ensures c.in-Ok.ensures.spelled

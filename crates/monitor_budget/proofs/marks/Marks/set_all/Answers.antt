@@ -1,7 +1,7 @@
-use Rattle.std.proofs.Common.{◌≡◌, ◌≢◌, ℕ, ◌+◌, ◌-◌, ◌<◌, ◌≤◌, Bool, true, false, List, get_or, sym, ◌∙◌, ap, subst, arith}
+use Rattle.std.proofs.Common.{◌≡◌, ℕ, ◌-◌, ◌<◌, true, false, get_or, ◌∙◌, subst, arith}
 use Rattle.monitor_budget.specs.Counts.{cces_from}
-use Rattle.monitor_budget.specs.Tally.{AddsCces, mark_of}
-use Rattle.monitor_budget.proofs.Adding.{one_marked, range_marked, cces_none}
+use Rattle.monitor_budget.specs.Tally.{AddsCces}
+use Rattle.monitor_budget.proofs.Adding.{one_marked, range_marked}
 use Rattle.monitor_budget.proofs.marks.Marks.set_all.Goals as goal
 
 pub loop-cce-preserved : goal.loop-cce-preserved

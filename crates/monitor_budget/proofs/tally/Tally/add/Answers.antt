@@ -1,4 +1,4 @@
-use Rattle.std.proofs.Common.{◌≡◌, ◌+◌, ◌≤◌, ◌∷◌, [], sym, ◌∙◌, ap, subst, arith, get_or, refl}
+use Rattle.std.proofs.Common.{◌∷◌, [], subst, arith, get_or, refl}
 use Rattle.monitor_budget.specs.declared.candidates.Candidate.{Candidate}
 use Rattle.monitor_budget.specs.declared.counted.Counted.{Counted}
 use Rattle.monitor_budget.specs.Counts.{cces_of_candidate, counted_as}

@@ -1,4 +1,4 @@
-use Rattle.std.proofs.Common.{◌≡◌, ℕ, List, Ok, sym, ap, ◌∙◌, subst}
+use Rattle.std.proofs.Common.{ℕ, List, ap, ◌∙◌}
 use Rattle.rrc_settings.specs.HandsetsOfCell.{handset_at}
 use Rattle.monitor_plan.specs.Planned.{planned}
 use Rattle.monitor_plan.specs.Watches.{watches_of}

@@ -1,0 +1,10 @@
+pub mod Scrambles
+pub mod FieldValues
+pub mod CodableBlocks
+pub mod WatchLists
+pub mod Agreements
+pub mod Carriers
+pub mod Hearings
+pub mod Readings
+pub mod Stages
+pub mod Spellings

@@ -1,0 +1,9 @@
+pub mod Scrambling
+pub mod BlockImage
+pub mod AllValues
+pub mod Formats
+pub mod Spelling
+pub mod Hearing
+pub mod Silences
+pub mod Spelled
+pub mod Equality

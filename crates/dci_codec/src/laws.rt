@@ -1,0 +1,14 @@
+//! What holds of all spellings and of what is heard: laws over the definitions that the contracts of `spell` and `hear`
+//! name, as the contracts of functions with nothing to do.
+ghost use Rattle.dci_codec.specs.Hearing.{FindsWhatIsSpelled};
+ghost use Rattle.dci_codec.specs.Spelled.{HearsWhatWasSpelled};
+
+/// What is found among all spellings is exactly what the grid spells, so it spells at most one.
+pub fn finds_what_is_spelled()
+    ensures { FindsWhatIsSpelled }
+{}
+
+/// What was spelled at a watch is heard there, with the shown values among those of all rows.
+pub fn hears_what_was_spelled()
+    ensures { HearsWhatWasSpelled }
+{}

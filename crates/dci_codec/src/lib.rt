@@ -1,0 +1,20 @@
+//! Downlink control information on the grid at a watch: what is spelled there, and what a handset hears (3GPP TS 38.212, 7.3).
+#![tactic(auto)]
+
+mod coding;
+mod heard;
+mod hearing;
+pub mod laws;
+mod lists;
+mod same;
+mod scrambling;
+mod silence;
+mod spelling;
+
+pub use heard::Heard;
+pub use hearing::hear;
+pub use silence::Silence;
+pub use spelling::spell;
+
+#[cfg(test)]
+mod tests;

@@ -1,9 +1,0 @@
-use Rattle.std.proofs.Common.{◌≡◌, length}
-use Rattle.dmrs_qpsk.proofs.RegsInARow.{regs_below}
-use Rattle.dmrs_qpsk.proofs.tests.eight_cces.Given as goal
-
-abbrev pub invariant-loop-block : goal.invariant-loop-block
-invariant-loop-block l = record {
-  size : length l.regs.items ≡ l.block;
-  regs : l.regs.items ≡ regs_below l.block;
-}

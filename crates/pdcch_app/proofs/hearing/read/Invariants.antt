@@ -1,6 +1,0 @@
-use Rattle.pdcch_app.proofs.Hearings.{NoneRead}
-use Rattle.pdcch_app.proofs.hearing.read.Given as goal
-
--- no format so far has the payload
-abbrev pub invariant-loop-format : goal.invariant-loop-format
-invariant-loop-format l = NoneRead l.watch l.payload l.format-index

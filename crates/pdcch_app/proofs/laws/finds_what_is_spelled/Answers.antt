@@ -1,5 +1,0 @@
-use Rattle.pdcch_app.proofs.Hearings.{finds_what_is_spelled}
-use Rattle.pdcch_app.proofs.laws.finds_what_is_spelled.Goals as goal
-
-pub returns : goal.returns
-returns c = finds_what_is_spelled

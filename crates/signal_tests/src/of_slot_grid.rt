@@ -1,0 +1,38 @@
+//! Points in the corners of the greatest grid.
+use slot_grid::{Grid, Point};
+use std::test::Fail;
+
+/// Places of the greatest grid, and the points there once the corners are written.
+const PLACES: [(u8, u16, Point); 8] = [
+    (0, 0, Point::P00),
+    (0, 3299, Point::P01),
+    (13, 0, Point::P10),
+    (13, 3299, Point::P11),
+    (0, 1, Point::Empty),
+    (1, 0, Point::Empty),
+    (12, 3299, Point::Empty),
+    (13, 3298, Point::Empty),
+];
+
+#[test]
+fn corners_and_their_neighbours(rt: HostRuntime) -> Result<(), Fail> {
+    let mut grid = Grid::blank(rt.alloc(), 3, 1023, 79, 275)?;
+    assert_eq!(rt; grid.get(13, 3299), Point::Empty);
+    grid.put(0, 0, Point::P00);
+    grid.put(0, 3299, Point::P01);
+    grid.put(13, 0, Point::P10);
+    grid.put(13, 3299, Point::P11);
+    assert_eq!(rt;
+        (grid.mu(), grid.frame(), grid.slot(), grid.blocks()),
+        (3, 1023, 79, 275)
+    );
+    for (symbol, subcarrier, point) in PLACES {
+        assert!(rt; symbol < 14 && subcarrier < 3300);
+        assert_eq!(rt;
+            grid.get(symbol, subcarrier),
+            point,
+            "{symbol} {subcarrier}"
+        );
+    }
+    Ok(())
+}
