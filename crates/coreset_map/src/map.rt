@@ -1,6 +1,5 @@
 //! The REGs of a control resource set (3GPP TS 38.211, 7.3.2.2).
 ghost use Rattle.std.specs.Prelude.{◌≡◌, ℕ, ◌+◌, ◌*◌, ◌<◌, ◌≤◌, length, option_map, slice_index};
-ghost use Rattle.rrc_settings.specs.Conflicts.{has_bit};
 ghost use Rattle.coreset_map.specs.Candidates.{candidate_regs};
 ghost use Rattle.coreset_map.specs.ControlResources.{blocks_of, cce_count, cce_regs, AreBelow, AreResources};
 ghost use Rattle.coreset_map.specs.Numbers.{number_at, placed_reg};
@@ -11,7 +10,7 @@ ghost use Rattle.coreset_map.specs.ResourcesOfCell.{groups_of, interleaver_in, r
 use crate::Reg;
 use crate::interleaver::{Interleaver, bundle_at, bundle_size};
 use arrayvec::ArrayVec;
-use rrc_settings::{Cell, Coreset, Interleave};
+use rrc_settings::{Cell, Coreset, Interleave, group_block, has_bit};
 use std::marker::Model;
 
 /// A control resource set of a cell, and where each of its CCEs stands.
@@ -112,10 +111,8 @@ impl Map {
         requires { rank < 6 * length self.now.groups }
         ensures { result ≡ slice_index (blocks_of self.now) rank }
     {
-        let start = u32::from(self.start);
         let group = u32::from(self.groups[usize::from(rank / 6)]);
-        let sixth = u32::from(rank % 6);
-        (6 * ((start + 5) / 6) + 6 * group + sixth) as u16
+        (group_block(self.start, group) + u32::from(rank % 6)) as u16
     }
 
     /// The number of the REG at a place of the CCEs, six places for each.
@@ -149,19 +146,11 @@ fn groups_of(groups: u64) -> ArrayVec<u16, 64>
 {
     let mut rising = ArrayVec::new();
     for group in 0..64u16 {
-        if has_bit(groups, group) {
+        if has_bit(groups, u32::from(group)) {
             rising.push(group);
         }
     }
     rising
-}
-
-/// Whether bit `place` of a number is one.
-fn has_bit(number: u64, place: u16) -> bool
-    requires { place < 64 }
-    ensures { result ≡ has_bit number place }
-{
-    number >> place & 1 == 1
 }
 
 /// The interleaver of the settings, where there is one: its shift is the cell's number where they give none.

@@ -4,10 +4,10 @@ ghost use Rattle.rrc_settings.specs.HandsetsOfCell.{handset_at};
 ghost use Rattle.monitor_budget.specs.Counts.{set_at, candidates_of, ArePlaced};
 ghost use Rattle.monitor_budget.specs.SetCandidates.{AreAsked, level_candidates, set_candidates, sized, symbol_candidates};
 
-use crate::sets::{cces_under, handset_in, has_bit, set_in, sizes_in};
+use crate::sets::{cces_under, handset_in, set_in, sizes_in};
 use arrayvec::ArrayVec;
 use dci_fields::Sizes;
-use rrc_settings::{Cell, LEVELS, SearchSet};
+use rrc_settings::{Cell, LEVELS, SearchSet, has_bit};
 use search_starts::start_cce;
 
 /// A candidate of a search space set in a slot.
@@ -55,7 +55,7 @@ fn push_set(out: &mut ArrayVec<Candidate, 1120>, cces: u16, sizes: &[u16], set: 
     ensures few { length out.new.items ≤ 1120 }
 {
     for symbol in 0..14u8 {
-        if has_bit(set.symbols, symbol) {
+        if has_bit(u64::from(set.symbols), u32::from(symbol)) {
             push_symbol(out, cces, sizes, set, symbol);
         }
     }

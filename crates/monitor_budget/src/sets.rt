@@ -1,7 +1,7 @@
 //! A search space set of a handset: its CORESET, its symbols and its sizes.
 ghost use Rattle.std.specs.Prelude.{◌≡◌, ◌^◌, ◌<◌, ◌≤◌, IsSome, Some, length};
 ghost use Rattle.std.specs.Option.{option_to_list};
-ghost use Rattle.rrc_settings.specs.Conflicts.{has_bit, coreset_numbered};
+ghost use Rattle.rrc_settings.specs.Conflicts.{coreset_numbered};
 ghost use Rattle.rrc_settings.specs.Legal.{IsLegal};
 ghost use Rattle.rrc_settings.specs.HandsetsOfCell.{handset_at};
 ghost use Rattle.coreset_map.specs.ResourcesOfCell.{coreset_at};
@@ -13,14 +13,6 @@ use arrayvec::ArrayVec;
 use coreset_map::Map;
 use dci_fields::Sizes;
 use rrc_settings::{Cell, Handset, SearchSet, SetKind};
-
-/// Whether bit `place` of a number is one.
-pub(crate) fn has_bit(number: u16, place: u8) -> bool
-    requires { place < 16 }
-    ensures { result ≡ has_bit number place }
-{
-    number >> place & 1 == 1
-}
 
 /// The sizes that a set of a kind monitors, rising.
 pub(crate) fn sizes_in(sizes: &Sizes, kind: SetKind) -> ArrayVec<u16, 2>

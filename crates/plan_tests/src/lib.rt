@@ -1,5 +1,5 @@
-//! Tests of the layers of grants and plans: their public calls with values from outside, over the cells of one builder. They
-//! stand in a crate of their own, since a crate with tests is proved a second time with them.
+//! Tests of the layers of settings, grants and plans: their public calls with values from outside. They stand in a crate of their
+//! own, since a crate with tests is proved a second time with them.
 #![tactic(auto)]
 
 #[cfg(test)]
@@ -15,6 +15,12 @@ mod of_grant_file;
 #[cfg(test)]
 mod of_monitor_plan;
 #[cfg(test)]
+mod of_rrc_settings;
+#[cfg(test)]
 mod of_search_starts;
 #[cfg(test)]
+mod of_settings_json;
+#[cfg(test)]
 mod of_size_alignment;
+#[cfg(test)]
+mod words;

@@ -4,26 +4,14 @@ ghost use Rattle.std.specs.Prelude.{◌≤◌};
 mod faults;
 mod values;
 
+use crate::words::reason_words;
 use grant_file::{GrantFault, GrantPlace, GrantsError, read_grants};
-use rrc_settings::Reason;
 use std::alloc::{AllocError, Global};
 use std::test::Fail;
 
 /// Two grants. The members of the first one's fields stand in another order than that of their words.
 pub const GRANTS: &str =
     r#"{"frame":7,"slot":19,"grants":[{"handset":"alpha","set":1,"level":8,"candidate":2,"symbol":3,"format":"1_0","fields":{"tdra":2,"fdra":101}},{"handset":"beta","set":39,"level":1,"format":"order","fields":{"zeta":18446744073709551615,"colour":1,"a_0":0}}]}"#;
-
-/// What a reason is called.
-fn reason_words(reason: Reason) -> &'static str {
-    match reason {
-        Reason::NotJson => "not json",
-        Reason::Missing => "missing",
-        Reason::Unknown => "unknown",
-        Reason::WrongKind => "wrong kind",
-        Reason::OutOfRange => "out of range",
-        Reason::Conflict => "conflict",
-    }
-}
 
 /// A place, its steps joined by `/`. That of the whole is `file`.
 fn place_words(alloc: Global, place: &GrantPlace) -> Result<String, AllocError> {

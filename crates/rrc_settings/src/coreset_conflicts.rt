@@ -5,6 +5,7 @@ ghost use Rattle.rrc_settings.specs.Faults.{found_by, each_after};
 ghost use Rattle.rrc_settings.specs.Conflicts.{bundle_differs, cces_of, coreset_conflicts, end_of, group_count, has_bit, interleave_conflicts, reaches_outside, rows_differ};
 
 use crate::conflicts::refuse_if;
+use crate::groups::{group_block, has_bit};
 use crate::{Bwp, Coreset, Interleave, Key, Place, SettingsFault};
 
 impl Bwp {
@@ -26,14 +27,6 @@ impl Coreset {
     }
 }
 
-/// Whether bit `place` of a number is one.
-pub(crate) fn has_bit(number: u64, place: u32) -> bool
-    requires { place < 64 }
-    ensures { result ≡ has_bit number place }
-{
-    number >> place & 1 == 1
-}
-
 /// How many groups of six blocks there are.
 #[tactic(auto, unfolding(crate::specs::Conflicts::group_count))]
 fn group_count(groups: u64) -> u32
@@ -48,9 +41,9 @@ fn group_count(groups: u64) -> u32
 fn reaches_outside(bwp: &Bwp, groups: u64) -> bool
     ensures { result ≡ reaches_outside bwp.now groups }
 {
+    let start = bwp.start;
     let end = bwp.end();
-    let first = 6 * ((bwp.start as u32 + 5) / 6);
-    (0..64).any(|group| has_bit(groups, group) && end < first + 6 * group + 6)
+    (0..64).any(|group| has_bit(groups, group) && end < group_block(start, group) + 6)
 }
 
 /// Whether a bundle does not go with a duration.

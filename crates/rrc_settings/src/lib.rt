@@ -4,6 +4,7 @@
 mod conflicts;
 mod coreset_conflicts;
 mod field_ranges;
+mod groups;
 mod items;
 mod legal;
 mod levels;
@@ -15,6 +16,7 @@ mod set_conflicts;
 mod settings;
 mod words;
 
+pub use groups::{group_block, has_bit};
 pub use items::Items;
 pub use legal::Cell;
 pub use levels::{LEVELS, is_level};

@@ -5,7 +5,7 @@ ghost use Rattle.rrc_settings.specs.Faults.{found_by, each_after};
 ghost use Rattle.rrc_settings.specs.Conflicts.{asks_above, coreset_numbered, ends_after_slot, is_common, is_specific, set_conflicts, timing_conflicts};
 
 use crate::conflicts::refuse_if;
-use crate::coreset_conflicts::has_bit;
+use crate::groups::has_bit;
 use crate::levels::LEVELS;
 use crate::{Coreset, Handset, Key, Place, SearchSet, SetKind, SettingsFault};
 

@@ -89,10 +89,7 @@ fn the_text_of_a_grid(rt: HostRuntime) -> Result<(), Fail> {
     let Ok(grid) = read_grid(alloc, &text) else {
         return Err(Fail::new("not read"));
     };
-    assert_eq!(rt;
-        (grid.mu(), grid.frame(), grid.slot(), grid.blocks()),
-        (1, 0, 0, 51)
-    );
+    assert!(rt; grid.mu() == 1 && grid.frame() == 0 && grid.slot() == 0 && grid.blocks() == 51);
     let places = [
         (0, 0, Point::P00),
         (0, 1, Point::P01),
@@ -104,9 +101,8 @@ fn the_text_of_a_grid(rt: HostRuntime) -> Result<(), Fail> {
     ];
     for (symbol, subcarrier, point) in places {
         assert!(rt; symbol < 14 && subcarrier < 612);
-        assert_eq!(rt;
-            grid.get(symbol, subcarrier),
-            point,
+        assert!(rt;
+            grid.get(symbol, subcarrier) == point,
             "{symbol} {subcarrier}"
         );
     }

@@ -13,16 +13,17 @@ loop-symbol-preserved c =
     let l = c.loop-symbol in
     let p = has_bit c.args.set.now.symbols in
     let f = symbol_candidates c.args.cces c.args.sizes.now c.args.set.now in
+    let bit = ap (λ number. has_bit number l.symbol) (sym c.from.ensures) ∙ ap (has_bit c.from.result) (sym c.from-in-loop-symbol.ensures) ∙ sym c.has_bit.ensures in
     elim c.if-has_bit.branch [
       | then-has_bit w ↦ record {
-        items = pushed_pass p f c.args.out.now.items l.out.items c.if-has_bit.out.items l.symbol (sym c.has_bit.ensures ∙ w.if-has_bit.true)
+        items = pushed_pass p f c.args.out.now.items l.out.items c.if-has_bit.out.items l.symbol (bit ∙ w.if-has_bit.true)
             l.invariant.items (ap (λ (v : ArrayVec Candidate). v.items) w.out-is ∙ w.push_symbol.ensures.items);
         few = let h = l.invariant.few in let k = w.push_symbol.ensures.few in let e = ap (λ (v : ArrayVec Candidate). length v.items) w.out-is in
             omega (arith, h, k, e);
       }
       | else-has_bit w ↦ record {
         items = ap (λ (v : ArrayVec Candidate). v.items) w.out-is
-            ∙ pushed_skip p f c.args.out.now.items l.out.items l.symbol (sym c.has_bit.ensures ∙ w.if-has_bit.false) l.invariant.items;
+            ∙ pushed_skip p f c.args.out.now.items l.out.items l.symbol (bit ∙ w.if-has_bit.false) l.invariant.items;
         few = let h = l.invariant.few in let e = ap (λ (v : ArrayVec Candidate). length v.items) w.out-is in omega (arith, h, e);
       }
     ]
