@@ -3,11 +3,11 @@ use Rattle.std.proofs.Common.{◌≡◌, ℕ, ◌+◌, ◌*◌, Bool, List, leng
 use Rattle.crc_mask.specs.Parity.{masked}
 use Rattle.crc_mask.proofs.Masks.{length-masked, masked_once}
 use Rattle.dmrs_qpsk.specs.Held.{Holds}
-use Rattle.dmrs_qpsk.specs.PointsOnGrid.{image_of, AreInside}
+use Rattle.dmrs_qpsk.specs.PointsOnGrid.{image_of}
 use Rattle.dmrs_qpsk.proofs.ImagesOnGrid.{image_within}
 use Rattle.dmrs_qpsk.proofs.Takes.{one_held}
 use Rattle.monitor_plan.specs.declared.watch.Watch.{Watch}
-use Rattle.monitor_plan.specs.Watch.{IsSound}
+use Rattle.monitor_plan.specs.Watch.{IsCarrying, IsInside}
 use Rattle.polar_chain.specs.CodeOfBlock.{code_by}
 use Rattle.polar_chain.proofs.CodesByTables.{code_by_once, length-code_by}
 use Rattle.slot_grid.specs.Grid.{GridValue}
@@ -40,7 +40,7 @@ pub image_is : (tables : Tables) (slot : ℕ) (w : Watch) (block : List Bool)
 unfolding block_image
 image_is tables slot w block = refl
 
-length-sent : (tables : Tables) (w : Watch) (block : List Bool) → IsSound w → length (sent tables w block) ≡ 18 * length w.regs.items
+length-sent : (tables : Tables) (w : Watch) (block : List Bool) → IsCarrying w → length (sent tables w block) ≡ 18 * length w.regs.items
 length-sent tables w block keeps =
     let a = length-scrambled w.scramble (code tables w block) in
     let b = length-code_by tables.reliability tables.input_order (block_len w) (sent_len w) block in
@@ -50,13 +50,13 @@ pub length_block : (w : Watch) (payload : List Bool) → length payload ≡ w.si
 length_block w payload e = length-masked payload w.rnti ∙ omega (arith, e)
 
 -- where a grid carries a payload, the code of the masked payload is received
-pub received_sent : (tables : Tables) (grid : GridValue) (w : Watch) (payload : List Bool) → IsSound w → IsCarried tables grid w payload
+pub received_sent : (tables : Tables) (grid : GridValue) (w : Watch) (payload : List Bool) → IsCarrying w → IsCarried tables grid w payload
     → IsReceived grid w (code tables w (masked payload w.rnti))
 received_sent tables grid w payload keeps h =
     (length-sent tables w (masked payload w.rnti) keeps, subst (Agrees grid) (image_is tables grid.slot w (masked payload w.rnti)) h.1)
 
 -- one list of bits at most is received
-pub one_received : (grid : GridValue) (w : Watch) (bits other : List Bool) → IsSound w → IsReceived grid w bits → IsReceived grid w other → bits ≡ other
+pub one_received : (grid : GridValue) (w : Watch) (bits other : List Bool) → IsCarrying w → IsReceived grid w bits → IsReceived grid w other → bits ≡ other
 one_received grid w bits other keeps h g =
     scrambled_once w.scramble bits other
     (one_held grid w.symbol w.dmrs_id w.regs.items (scrambled w.scramble bits) (scrambled w.scramble other) keeps.order h g)
@@ -79,13 +79,13 @@ carried_from tables grid w bits block payload h g e =
     )
 
 -- no two blocks have one code
-pub one_block : (tables : Tables) (w : Watch) (c other : List Bool) → AreTables tables → IsSound w → length c ≡ block_len w → length other ≡ block_len w
+pub one_block : (tables : Tables) (w : Watch) (c other : List Bool) → AreTables tables → IsCarrying w → length c ≡ block_len w → length other ≡ block_len w
     → code tables w c ≡ code tables w other → c ≡ other
 one_block tables w c other legal keeps h g e =
-    code_by_once tables.reliability tables.input_order (block_len w) (sent_len w) c other legal.0 legal.1 (let most = keeps.most in omega (arith, most)) (enough_at w.size w.level keeps.least keeps.most keeps.level) h g e
+    code_by_once tables.reliability tables.input_order (block_len w) (sent_len w) c other legal.0 legal.1 (let longest = keeps.longest in omega (arith, longest)) (enough_at w.size w.level keeps.shortest keeps.longest keeps.room keeps.level) h g e
 
 -- a grid carries one payload at most
-pub carried_once : (tables : Tables) (grid : GridValue) (w : Watch) (payload other : List Bool) → AreTables tables → IsSound w
+pub carried_once : (tables : Tables) (grid : GridValue) (w : Watch) (payload other : List Bool) → AreTables tables → IsCarrying w
     → IsCarried tables grid w payload → IsCarried tables grid w other → payload ≡ other
 carried_once tables grid w payload other legal keeps h g =
     let a = masked payload w.rnti in
@@ -95,7 +95,7 @@ carried_once tables grid w payload other legal keeps h g =
     (one_received grid w (code tables w a) (code tables w b) keeps (received_sent tables grid w payload keeps h) (received_sent tables grid w other keeps g)))
 
 -- a watch's image is on the grid
-pub image_on : (tables : Tables) (grid : GridValue) (slot : ℕ) (w : Watch) (block : List Bool) → AreInside grid w.symbol w.regs.items
+pub image_on : (tables : Tables) (grid : GridValue) (slot : ℕ) (w : Watch) (block : List Bool) → IsInside grid.blocks w
     → IsWithin grid (block_image tables slot w block)
 image_on tables grid slot w block inside =
     subst (IsWithin grid) (sym (image_is tables slot w block))

@@ -1,11 +1,11 @@
--- The block of each sound watch can be coded.
+-- The block of each watch that carries payloads can be coded.
 use Rattle.std.proofs.Common.{◌≡◌, ℕ, ◌+◌, ◌*◌, ◌≤◌, true, inl, inr, List, [], ◌∷◌, sym, subst, arith}
 use Rattle.std.specs.Prelude.{nat_eq}
 use Rattle.std.proofs.lemmas.Bool.{or_cases, eqb-true}
 use Rattle.polar_sets.specs.Enough.{Enough}
 use Rattle.polar_sets.proofs.CodableBlocks.{enough_108, enough_216, enough_432, enough_864, enough_1728}
 use Rattle.monitor_plan.specs.declared.watch.Watch.{Watch}
-use Rattle.monitor_plan.specs.Watch.{IsSound}
+use Rattle.monitor_plan.specs.Watch.{IsCarrying}
 use Rattle.rrc_settings.specs.AggregationLevels.{is_level}
 use Rattle.rrc_settings.specs.Table.{is_one_of}
 
@@ -20,21 +20,21 @@ picked P m ms n h first others =
 none_picked : (P : ℕ → Type 0) (n : ℕ) → is_one_of [] n ≡ true → P n
 none_picked P n h = absurd (cc)
 
--- the block of a watch can be coded
-pub enough_at : (size level : ℕ) → 23 ≤ size → size ≤ 84 → is_level level ≡ true → Enough (size + 24) (108 * level)
-enough_at size level h l is =
+-- the block of a watch that carries payloads can be coded
+pub enough_at : (size level : ℕ) → 12 ≤ size → size ≤ 128 → size + 24 ≤ 108 * level → is_level level ≡ true → Enough (size + 24) (108 * level)
+enough_at size level h l room is =
     let k : ℕ = size + 24 in
-    let least : 47 ≤ k = omega (arith, h) in
-    let most : k ≤ 108 = omega (arith, l) in
-    let P : ℕ → Type 0 = λ n. Enough k (108 * n) in
-    picked P 1 (2 ∷ 4 ∷ 8 ∷ 16 ∷ []) level is (enough_108 k least most) (λ a.
-    picked P 2 (4 ∷ 8 ∷ 16 ∷ []) level a (enough_216 k least most) (λ b.
-    picked P 4 (8 ∷ 16 ∷ []) level b (enough_432 k least most) (λ c.
-    picked P 8 (16 ∷ []) level c (enough_864 k least most) (λ d.
-    picked P 16 [] level d (enough_1728 k least most) (none_picked P level)))))
+    let least : 36 ≤ k = omega (arith, h) in
+    let most : k ≤ 152 = omega (arith, l) in
+    let P : ℕ → Type 0 = λ n. k ≤ 108 * n → Enough k (108 * n) in
+    picked P 1 (2 ∷ 4 ∷ 8 ∷ 16 ∷ []) level is (λ fits. enough_108 k least fits) (λ a.
+    picked P 2 (4 ∷ 8 ∷ 16 ∷ []) level a (λ fits. enough_216 k least most) (λ b.
+    picked P 4 (8 ∷ 16 ∷ []) level b (λ fits. enough_432 k least most) (λ c.
+    picked P 8 (16 ∷ []) level c (λ fits. enough_864 k least most) (λ d.
+    picked P 16 [] level d (λ fits. enough_1728 k least most) (none_picked P level))))) room
 
-pub enough_by : (w : Watch) (size level : ℕ) → IsSound w → size ≡ w.size → level ≡ w.level → Enough (size + 24) (108 * level)
-enough_by w size level sound e f =
+pub enough_by : (w : Watch) (size level : ℕ) → IsCarrying w → size ≡ w.size → level ≡ w.level → Enough (size + 24) (108 * level)
+enough_by w size level carries e f =
     let P : ℕ → Type 0 = λ n. Enough (n + 24) (108 * level) in
     let Q : ℕ → Type 0 = λ n. Enough (w.size + 24) (108 * n) in
-    subst P (sym e) (subst Q (sym f) (enough_at w.size w.level sound.least sound.most sound.level))
+    subst P (sym e) (subst Q (sym f) (enough_at w.size w.level carries.shortest carries.longest carries.room carries.level))

@@ -9,9 +9,8 @@ use Rattle.dci_fields.specs.declared.formats.Format.{Format}
 use Rattle.dci_fields.specs.declared.formats.Format.TheVariants.{F00, F10, Order, F01, F11}
 use Rattle.dci_fields.specs.Payloads.{payload_of}
 use Rattle.dci_fields.proofs.PayloadsOfRows.{length-payload_of, values_once}
-use Rattle.dmrs_qpsk.specs.PointsOnGrid.{AreInside}
 use Rattle.monitor_plan.specs.declared.watch.Watch.{Watch}
-use Rattle.monitor_plan.specs.Watch.{fits, list_of, IsSound}
+use Rattle.monitor_plan.specs.Watch.{fits, list_of, IsSound, IsInside}
 use Rattle.slot_grid.specs.Grid.{GridValue}
 use Rattle.table_files.specs.declared.tables.Tables.{Tables}
 use Rattle.dci_codec.specs.AllValues.{all_values}
@@ -35,7 +34,7 @@ carries_one tables grid watch None h = absurd (let f : ⊥ = cc in f)
 carries_one tables grid watch (Some payload) h = record { payload = payload; is = refl; agree = h }
 
 -- the test of spelling tells whether the grid spells
-pub spells_to : (tables : Tables) (grid : GridValue) (w : Watch) (s : Spelling) → AreInside grid w.symbol w.regs.items
+pub spells_to : (tables : Tables) (grid : GridValue) (w : Watch) (s : Spelling) → IsInside grid.blocks w
     → spells tables grid w s ≡ true → Spells tables grid w s
 spells_to tables grid w s inside e =
     let parts = and_parts (fits w s.format) (carries tables grid w (payload_of (list_of w s.format) s.format s.values w.size)) e in
@@ -69,7 +68,7 @@ spelling_of format values = record { format = format; values = values }
 pub spells_once : (tables : Tables) (grid : GridValue) (w : Watch) (s other : Spelling) → AreTables tables → IsSound w → Spells tables grid w s
     → Spells tables grid w other → s ≡ other
 spells_once tables grid w s other legal keeps h g =
-    let same : g.payload ≡ h.payload = carried_once tables grid w g.payload h.payload legal keeps (carried_of tables grid w other keeps g) (carried_of tables grid w s keeps h) in
+    let same : g.payload ≡ h.payload = carried_once tables grid w g.payload h.payload legal keeps.carrying (carried_of tables grid w other keeps g) (carried_of tables grid w s keeps h) in
     let packs : payload_of (list_of w other.format) other.format other.values w.size ≡ Some h.payload = g.packs ∙ ap (λ (p : List Bool). Some p) same in
     let one : s.format ≡ other.format = one_format w s.format other.format s.values other.values h.payload keeps h.fitting g.fitting h.packs packs in
     ap (λ (f : Format). spelling_of f s.values) one
@@ -131,7 +130,7 @@ finds_none test [] f = refl
 finds_none test (y ∷ ys) f = left_out (test y) y (find test ys) (f y) (finds_none test ys f)
 
 -- what the grid spells is found
-pub spelled_some : (tables : Tables) (grid : GridValue) (w : Watch) (s : Spelling) → AreTables tables → IsSound w → AreInside grid w.symbol w.regs.items
+pub spelled_some : (tables : Tables) (grid : GridValue) (w : Watch) (s : Spelling) → AreTables tables → IsSound w → IsInside grid.blocks w
     → Spells tables grid w s → spelled tables grid w ≡ Some s
 unfolding spelled
 spelled_some tables grid w s legal keeps inside g =
@@ -141,12 +140,12 @@ spelled_some tables grid w s legal keeps inside g =
     (λ other e. spells_once tables grid w other s legal keeps (spells_to tables grid w other inside e) g)
 
 -- and what is found is spelled
-pub spelled_passes : (tables : Tables) (grid : GridValue) (w : Watch) (s : Spelling) → AreInside grid w.symbol w.regs.items
+pub spelled_passes : (tables : Tables) (grid : GridValue) (w : Watch) (s : Spelling) → IsInside grid.blocks w
     → spelled tables grid w ≡ Some s → Spells tables grid w s
 unfolding spelled
 spelled_passes tables grid w s inside e = spells_to tables grid w s inside (found_passes (spells tables grid w) (all_spellings w) s e)
 
-pub spelled_none : (tables : Tables) (grid : GridValue) (w : Watch) → AreInside grid w.symbol w.regs.items → ((s : Spelling) → Spells tables grid w s → ⊥)
+pub spelled_none : (tables : Tables) (grid : GridValue) (w : Watch) → IsInside grid.blocks w → ((s : Spelling) → Spells tables grid w s → ⊥)
     → spelled tables grid w ≡ None
 unfolding spelled
 spelled_none tables grid w inside none = finds_none (spells tables grid w) (all_spellings w) (λ s e. none s (spells_to tables grid w s inside e))

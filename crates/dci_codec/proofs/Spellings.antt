@@ -7,9 +7,9 @@ use Rattle.dci_fields.specs.declared.formats.Format.{Format}
 use Rattle.dci_fields.specs.declared.rows.FieldRow.{FieldRow}
 use Rattle.dci_fields.specs.GivenValues.{settled, IsFieldFault, IsPayloadOf}
 use Rattle.dci_fields.specs.Payloads.{payload_of}
-use Rattle.dmrs_qpsk.specs.PointsOnGrid.{image_of, AreInside}
+use Rattle.dmrs_qpsk.specs.PointsOnGrid.{image_of}
 use Rattle.monitor_plan.specs.declared.watch.Watch.{Watch}
-use Rattle.monitor_plan.specs.Watch.{fits, list_of, IsSound}
+use Rattle.monitor_plan.specs.Watch.{fits, list_of, IsCarrying, IsSound, IsInside}
 use Rattle.polar_chain.specs.CodeShape.{CodeShape}
 use Rattle.slot_grid.specs.Grid.{GridValue}
 use Rattle.slot_grid.specs.Image.{Agrees, overwritten}
@@ -25,7 +25,7 @@ use Rattle.dci_codec.proofs.Scrambles.{length-scrambled}
 use Rattle.dci_codec.proofs.Stages.{IsShapeAt}
 
 -- as many bits are sent as the REGs have places for
-pub bits_fit : (tables : Tables) (w : Watch) (s : CodeShape) (coded bits : List Bool) → IsSound w → IsShapeAt tables w s → length coded ≡ s.coded_len
+pub bits_fit : (tables : Tables) (w : Watch) (s : CodeShape) (coded bits : List Bool) → IsCarrying w → IsShapeAt tables w s → length coded ≡ s.coded_len
     → bits ≡ scrambled w.scramble coded → length bits ≡ 18 * length w.regs.items
 bits_fit tables w s coded bits keeps by c e =
     ap length e ∙ length-scrambled w.scramble coded ∙ c ∙ by.coded_is ∙ omega (arith, keeps.count)
@@ -82,12 +82,12 @@ fault_passed w format given rows payload x r packed f =
     )
 
 -- the grid keeps the places of the watch
-kept_inside : (w : Watch) (old new : GridValue) → new.blocks ≡ old.blocks → AreInside old w.symbol w.regs.items → AreInside new w.symbol w.regs.items
+kept_inside : (w : Watch) (old new : GridValue) → new.blocks ≡ old.blocks → IsInside old.blocks w → IsInside new.blocks w
 kept_inside w old new e inside j h = ((inside j h).0, omega (arith, (inside j h).1, e))
 
 -- what was spelled is spelled
 pub spells_after : (tables : Tables) (w : Watch) (format : Format) (given : List Given) (old new : GridValue) → fits w format ≡ true
-    → AreInside old w.symbol w.regs.items → IsSpelled tables w format given old new → Spells tables new w (spelling_by w format given)
+    → IsInside old.blocks w → IsSpelled tables w format given old new → Spells tables new w (spelling_by w format given)
 spells_after tables w format given old new fit inside h =
     let image = block_image tables old.slot w (masked h.payload w.rnti) in
     let P : GridValue → Type 0 = λ g. Agrees g image in

@@ -5,10 +5,9 @@ use Rattle.crc_mask.specs.Parity.{masked}
 use Rattle.dci_fields.specs.declared.values.FieldValue.{FieldValue}
 use Rattle.dmrs_qpsk.specs.declared.taking.BadPlace.{BadPlace}
 use Rattle.dmrs_qpsk.specs.Held.{IsFirstBad}
-use Rattle.dmrs_qpsk.specs.PointsOnGrid.{AreInside}
 use Rattle.dmrs_qpsk.proofs.Takes.{bad_apart, one_first}
 use Rattle.monitor_plan.specs.declared.watch.Watch.{Watch}
-use Rattle.monitor_plan.specs.Watch.{IsSound}
+use Rattle.monitor_plan.specs.Watch.{IsCarrying, IsSound, IsInside}
 use Rattle.polar_chain.specs.CodeShape.{CodeShape, IsByTables, word_len}
 use Rattle.polar_chain.specs.Decoding.{HasNoBlock, IsBlockOf}
 use Rattle.polar_chain.proofs.CodesByTables.{block_by-tables, block_of-tables, code_by_repeats, length-code_by}
@@ -38,7 +37,7 @@ word_is : (tables : Tables) (w : Watch) (s : CodeShape) → IsShapeAt tables w s
 word_is tables w s by = ap (λ (k : ℕ). length_of k s.coded_len) by.block_is ∙ ap (λ (e : ℕ). length_of (block_len w) e) by.coded_is
 
 -- so many bits are received as are sent
-pub all_received : (tables : Tables) (w : Watch) (s : CodeShape) (bits held : List Bool) → IsSound w → IsShapeAt tables w s → bits ≡ scrambled w.scramble held
+pub all_received : (tables : Tables) (w : Watch) (s : CodeShape) (bits held : List Bool) → IsCarrying w → IsShapeAt tables w s → bits ≡ scrambled w.scramble held
     → length held ≡ 18 * length w.regs.items → length bits ≡ s.coded_len
 all_received tables w s bits held keeps by e h =
     ap length e ∙ length-scrambled w.scramble held ∙ h ∙ omega (arith, keeps.count) ∙ sym by.coded_is
@@ -83,7 +82,7 @@ format_told tables grid w number payload legal keeps carried none =
       payload = payload;
       carried = carried;
       none = λ s g.
-          let same : g.payload ≡ payload = carried_once tables grid w g.payload payload legal keeps (carried_of tables grid w s keeps g) carried in
+          let same : g.payload ≡ payload = carried_once tables grid w g.payload payload legal keeps.carrying (carried_of tables grid w s keeps g) carried in
           none (heard_of w number s)
           (record {
             number_is = refl;
@@ -132,7 +131,7 @@ repeats_code tables grid w h = record { bits = h.bits; received = h.received; re
 decodes_crc : (tables : Tables) (grid : GridValue) (w : Watch) → HasOtherParity tables grid w → Decodes tables grid w
 decodes_crc tables grid w h = record { bits = h.bits; block = h.block; received = h.received; code_is = h.code }
 
-decodes_carried : (tables : Tables) (grid : GridValue) (w : Watch) (payload : List Bool) → IsSound w → IsCarried tables grid w payload → Decodes tables grid w
+decodes_carried : (tables : Tables) (grid : GridValue) (w : Watch) (payload : List Bool) → IsCarrying w → IsCarried tables grid w payload → Decodes tables grid w
 decodes_carried tables grid w payload keeps h =
     record {
       bits = code tables w (masked payload w.rnti);
@@ -141,7 +140,7 @@ decodes_carried tables grid w payload keeps h =
       code_is = (length_block w payload h.0, refl);
     }
 
-decodes_format : (tables : Tables) (grid : GridValue) (w : Watch) → IsSound w → HasNoFormat tables grid w → Decodes tables grid w
+decodes_format : (tables : Tables) (grid : GridValue) (w : Watch) → IsCarrying w → HasNoFormat tables grid w → Decodes tables grid w
 decodes_format tables grid w keeps h = decodes_carried tables grid w h.payload keeps h.carried
 
 carried_heard : (tables : Tables) (grid : GridValue) (w : Watch) (number : ℕ) (h : Heard) → IsSound w → (a : IsHeard tables grid w number h)
@@ -149,30 +148,30 @@ carried_heard : (tables : Tables) (grid : GridValue) (w : Watch) (number : ℕ) 
 carried_heard tables grid w number h keeps a = carried_of tables grid w (spelling_of h.format a.values) keeps a.spells
 
 decodes_ok : (tables : Tables) (grid : GridValue) (w : Watch) (number : ℕ) (h : Heard) → IsSound w → IsHeard tables grid w number h → Decodes tables grid w
-decodes_ok tables grid w number h keeps a = decodes_carried tables grid w a.spells.payload keeps (carried_heard tables grid w number h keeps a)
+decodes_ok tables grid w number h keeps a = decodes_carried tables grid w a.spells.payload keeps.carrying (carried_heard tables grid w number h keeps a)
 
 -- no stage fails where a later one is reached
-spot_apart : (grid : GridValue) (w : Watch) (bad : BadPlace) → IsSound w → IsFirstBad grid w.symbol w.dmrs_id w.regs.items bad → Receives grid w → ⊥
+spot_apart : (grid : GridValue) (w : Watch) (bad : BadPlace) → IsCarrying w → IsFirstBad grid w.symbol w.dmrs_id w.regs.items bad → Receives grid w → ⊥
 spot_apart grid w bad keeps h g = bad_apart grid w.symbol w.dmrs_id w.regs.items (scrambled w.scramble g.bits) bad keeps.order g.received h.is_bad
 
-repeat_apart : (grid : GridValue) (w : Watch) (at : ℕ) → IsSound w → HasDifferingRepeat grid w at → Repeats grid w → ⊥
+repeat_apart : (grid : GridValue) (w : Watch) (at : ℕ) → IsCarrying w → HasDifferingRepeat grid w at → Repeats grid w → ⊥
 repeat_apart grid w at keeps h g =
     let same : h.bits ≡ g.bits = one_received grid w h.bits g.bits keeps h.received g.received in
     none_differs (word_length w) g.bits at g.repeats (subst (λ (b : List Bool). IsFirstDiffering (word_length w) b at) same h.differs)
 
-code_apart : (tables : Tables) (grid : GridValue) (w : Watch) → IsSound w → HasNoCode tables grid w → Decodes tables grid w → ⊥
+code_apart : (tables : Tables) (grid : GridValue) (w : Watch) → IsCarrying w → HasNoCode tables grid w → Decodes tables grid w → ⊥
 code_apart tables grid w keeps h g =
     let same : g.bits ≡ h.bits = one_received grid w g.bits h.bits keeps g.received h.received in
     h.none g.block (subst (λ (b : List Bool). IsCodeAt tables w b g.block) same g.code_is)
 
-parity_apart : (tables : Tables) (grid : GridValue) (w : Watch) (payload : List Bool) → AreTables tables → IsSound w → HasOtherParity tables grid w
+parity_apart : (tables : Tables) (grid : GridValue) (w : Watch) (payload : List Bool) → AreTables tables → IsCarrying w → HasOtherParity tables grid w
     → IsCarried tables grid w payload → ⊥
 parity_apart tables grid w payload legal keeps h g =
     let block = masked payload w.rnti in
     let same : code tables w block ≡ h.bits = one_received grid w (code tables w block) h.bits keeps (received_sent tables grid w payload keeps g) h.received in
     h.none payload (one_block tables w block h.block legal keeps (length_block w payload g.0) h.code.0 (same ∙ sym h.code.1))
 
-one_repeat : (grid : GridValue) (w : Watch) (at other : ℕ) → IsSound w → HasDifferingRepeat grid w at → HasDifferingRepeat grid w other → at ≡ other
+one_repeat : (grid : GridValue) (w : Watch) (at other : ℕ) → IsCarrying w → HasDifferingRepeat grid w at → HasDifferingRepeat grid w other → at ≡ other
 one_repeat grid w at other keeps h g =
     let same : h.bits ≡ g.bits = one_received grid w h.bits g.bits keeps h.received g.received in
     one_differing (word_length w) g.bits at other (subst (λ (b : List Bool). IsFirstDiffering (word_length w) b at) same h.differs) g.differs
@@ -193,40 +192,40 @@ one_heard tables grid w number h g legal keeps a b =
 pub one_answer : (tables : Tables) (grid : GridValue) (w : Watch) (number : ℕ) (x y : Result Heard Silence) → AreTables tables → IsSound w
     → IsAnswer tables grid w number x → IsAnswer tables grid w number y → x ≡ y
 one_answer tables grid w number (Ok x) (Ok y) legal keeps h g = ap (λ (z : Heard). Ok z) (one_heard tables grid w number x y legal keeps h g)
-one_answer tables grid w number (Ok x) (Err (silence.Spot worse)) legal keeps h g = absurd (spot_apart grid w worse keeps g (receives_repeats grid w (repeats_decodes tables grid w (decodes_ok tables grid w number x keeps h))))
-one_answer tables grid w number (Ok x) (Err (silence.Repeat other)) legal keeps h g = absurd (repeat_apart grid w other keeps g (repeats_decodes tables grid w (decodes_ok tables grid w number x keeps h)))
-one_answer tables grid w number (Ok x) (Err silence.Code) legal keeps h g = absurd (code_apart tables grid w keeps g (decodes_ok tables grid w number x keeps h))
-one_answer tables grid w number (Ok x) (Err silence.Crc) legal keeps h g = absurd (parity_apart tables grid w h.spells.payload legal keeps g (carried_heard tables grid w number x keeps h))
+one_answer tables grid w number (Ok x) (Err (silence.Spot worse)) legal keeps h g = absurd (spot_apart grid w worse keeps.carrying g (receives_repeats grid w (repeats_decodes tables grid w (decodes_ok tables grid w number x keeps h))))
+one_answer tables grid w number (Ok x) (Err (silence.Repeat other)) legal keeps h g = absurd (repeat_apart grid w other keeps.carrying g (repeats_decodes tables grid w (decodes_ok tables grid w number x keeps h)))
+one_answer tables grid w number (Ok x) (Err silence.Code) legal keeps h g = absurd (code_apart tables grid w keeps.carrying g (decodes_ok tables grid w number x keeps h))
+one_answer tables grid w number (Ok x) (Err silence.Crc) legal keeps h g = absurd (parity_apart tables grid w h.spells.payload legal keeps.carrying g (carried_heard tables grid w number x keeps h))
 one_answer tables grid w number (Ok x) (Err silence.Format) legal keeps h g = absurd (g.none (spelling_of x.format h.values) h.spells)
-one_answer tables grid w number (Err (silence.Spot bad)) (Ok y) legal keeps h g = absurd (spot_apart grid w bad keeps h (receives_repeats grid w (repeats_decodes tables grid w (decodes_ok tables grid w number y keeps g))))
+one_answer tables grid w number (Err (silence.Spot bad)) (Ok y) legal keeps h g = absurd (spot_apart grid w bad keeps.carrying h (receives_repeats grid w (repeats_decodes tables grid w (decodes_ok tables grid w number y keeps g))))
 one_answer tables grid w number (Err (silence.Spot bad)) (Err (silence.Spot worse)) legal keeps h g = ap (λ (z : BadPlace). Err (silence.Spot z)) (one_first grid w.symbol w.dmrs_id w.regs.items bad worse h g)
-one_answer tables grid w number (Err (silence.Spot bad)) (Err (silence.Repeat other)) legal keeps h g = absurd (spot_apart grid w bad keeps h (receives_repeat grid w other g))
-one_answer tables grid w number (Err (silence.Spot bad)) (Err silence.Code) legal keeps h g = absurd (spot_apart grid w bad keeps h (receives_repeats grid w (repeats_code tables grid w g)))
-one_answer tables grid w number (Err (silence.Spot bad)) (Err silence.Crc) legal keeps h g = absurd (spot_apart grid w bad keeps h (receives_repeats grid w (repeats_decodes tables grid w (decodes_crc tables grid w g))))
-one_answer tables grid w number (Err (silence.Spot bad)) (Err silence.Format) legal keeps h g = absurd (spot_apart grid w bad keeps h (receives_repeats grid w (repeats_decodes tables grid w (decodes_format tables grid w keeps g))))
-one_answer tables grid w number (Err (silence.Repeat at)) (Ok y) legal keeps h g = absurd (repeat_apart grid w at keeps h (repeats_decodes tables grid w (decodes_ok tables grid w number y keeps g)))
-one_answer tables grid w number (Err (silence.Repeat at)) (Err (silence.Spot worse)) legal keeps h g = absurd (spot_apart grid w worse keeps g (receives_repeat grid w at h))
-one_answer tables grid w number (Err (silence.Repeat at)) (Err (silence.Repeat other)) legal keeps h g = ap (λ (z : ℕ). Err (silence.Repeat z)) (one_repeat grid w at other keeps h g)
-one_answer tables grid w number (Err (silence.Repeat at)) (Err silence.Code) legal keeps h g = absurd (repeat_apart grid w at keeps h (repeats_code tables grid w g))
-one_answer tables grid w number (Err (silence.Repeat at)) (Err silence.Crc) legal keeps h g = absurd (repeat_apart grid w at keeps h (repeats_decodes tables grid w (decodes_crc tables grid w g)))
-one_answer tables grid w number (Err (silence.Repeat at)) (Err silence.Format) legal keeps h g = absurd (repeat_apart grid w at keeps h (repeats_decodes tables grid w (decodes_format tables grid w keeps g)))
-one_answer tables grid w number (Err silence.Code) (Ok y) legal keeps h g = absurd (code_apart tables grid w keeps h (decodes_ok tables grid w number y keeps g))
-one_answer tables grid w number (Err silence.Code) (Err (silence.Spot worse)) legal keeps h g = absurd (spot_apart grid w worse keeps g (receives_repeats grid w (repeats_code tables grid w h)))
-one_answer tables grid w number (Err silence.Code) (Err (silence.Repeat other)) legal keeps h g = absurd (repeat_apart grid w other keeps g (repeats_code tables grid w h))
+one_answer tables grid w number (Err (silence.Spot bad)) (Err (silence.Repeat other)) legal keeps h g = absurd (spot_apart grid w bad keeps.carrying h (receives_repeat grid w other g))
+one_answer tables grid w number (Err (silence.Spot bad)) (Err silence.Code) legal keeps h g = absurd (spot_apart grid w bad keeps.carrying h (receives_repeats grid w (repeats_code tables grid w g)))
+one_answer tables grid w number (Err (silence.Spot bad)) (Err silence.Crc) legal keeps h g = absurd (spot_apart grid w bad keeps.carrying h (receives_repeats grid w (repeats_decodes tables grid w (decodes_crc tables grid w g))))
+one_answer tables grid w number (Err (silence.Spot bad)) (Err silence.Format) legal keeps h g = absurd (spot_apart grid w bad keeps.carrying h (receives_repeats grid w (repeats_decodes tables grid w (decodes_format tables grid w keeps.carrying g))))
+one_answer tables grid w number (Err (silence.Repeat at)) (Ok y) legal keeps h g = absurd (repeat_apart grid w at keeps.carrying h (repeats_decodes tables grid w (decodes_ok tables grid w number y keeps g)))
+one_answer tables grid w number (Err (silence.Repeat at)) (Err (silence.Spot worse)) legal keeps h g = absurd (spot_apart grid w worse keeps.carrying g (receives_repeat grid w at h))
+one_answer tables grid w number (Err (silence.Repeat at)) (Err (silence.Repeat other)) legal keeps h g = ap (λ (z : ℕ). Err (silence.Repeat z)) (one_repeat grid w at other keeps.carrying h g)
+one_answer tables grid w number (Err (silence.Repeat at)) (Err silence.Code) legal keeps h g = absurd (repeat_apart grid w at keeps.carrying h (repeats_code tables grid w g))
+one_answer tables grid w number (Err (silence.Repeat at)) (Err silence.Crc) legal keeps h g = absurd (repeat_apart grid w at keeps.carrying h (repeats_decodes tables grid w (decodes_crc tables grid w g)))
+one_answer tables grid w number (Err (silence.Repeat at)) (Err silence.Format) legal keeps h g = absurd (repeat_apart grid w at keeps.carrying h (repeats_decodes tables grid w (decodes_format tables grid w keeps.carrying g)))
+one_answer tables grid w number (Err silence.Code) (Ok y) legal keeps h g = absurd (code_apart tables grid w keeps.carrying h (decodes_ok tables grid w number y keeps g))
+one_answer tables grid w number (Err silence.Code) (Err (silence.Spot worse)) legal keeps h g = absurd (spot_apart grid w worse keeps.carrying g (receives_repeats grid w (repeats_code tables grid w h)))
+one_answer tables grid w number (Err silence.Code) (Err (silence.Repeat other)) legal keeps h g = absurd (repeat_apart grid w other keeps.carrying g (repeats_code tables grid w h))
 one_answer tables grid w number (Err silence.Code) (Err silence.Code) legal keeps h g = refl
-one_answer tables grid w number (Err silence.Code) (Err silence.Crc) legal keeps h g = absurd (code_apart tables grid w keeps h (decodes_crc tables grid w g))
-one_answer tables grid w number (Err silence.Code) (Err silence.Format) legal keeps h g = absurd (code_apart tables grid w keeps h (decodes_format tables grid w keeps g))
-one_answer tables grid w number (Err silence.Crc) (Ok y) legal keeps h g = absurd (parity_apart tables grid w g.spells.payload legal keeps h (carried_heard tables grid w number y keeps g))
-one_answer tables grid w number (Err silence.Crc) (Err (silence.Spot worse)) legal keeps h g = absurd (spot_apart grid w worse keeps g (receives_repeats grid w (repeats_decodes tables grid w (decodes_crc tables grid w h))))
-one_answer tables grid w number (Err silence.Crc) (Err (silence.Repeat other)) legal keeps h g = absurd (repeat_apart grid w other keeps g (repeats_decodes tables grid w (decodes_crc tables grid w h)))
-one_answer tables grid w number (Err silence.Crc) (Err silence.Code) legal keeps h g = absurd (code_apart tables grid w keeps g (decodes_crc tables grid w h))
+one_answer tables grid w number (Err silence.Code) (Err silence.Crc) legal keeps h g = absurd (code_apart tables grid w keeps.carrying h (decodes_crc tables grid w g))
+one_answer tables grid w number (Err silence.Code) (Err silence.Format) legal keeps h g = absurd (code_apart tables grid w keeps.carrying h (decodes_format tables grid w keeps.carrying g))
+one_answer tables grid w number (Err silence.Crc) (Ok y) legal keeps h g = absurd (parity_apart tables grid w g.spells.payload legal keeps.carrying h (carried_heard tables grid w number y keeps g))
+one_answer tables grid w number (Err silence.Crc) (Err (silence.Spot worse)) legal keeps h g = absurd (spot_apart grid w worse keeps.carrying g (receives_repeats grid w (repeats_decodes tables grid w (decodes_crc tables grid w h))))
+one_answer tables grid w number (Err silence.Crc) (Err (silence.Repeat other)) legal keeps h g = absurd (repeat_apart grid w other keeps.carrying g (repeats_decodes tables grid w (decodes_crc tables grid w h)))
+one_answer tables grid w number (Err silence.Crc) (Err silence.Code) legal keeps h g = absurd (code_apart tables grid w keeps.carrying g (decodes_crc tables grid w h))
 one_answer tables grid w number (Err silence.Crc) (Err silence.Crc) legal keeps h g = refl
-one_answer tables grid w number (Err silence.Crc) (Err silence.Format) legal keeps h g = absurd (parity_apart tables grid w g.payload legal keeps h g.carried)
+one_answer tables grid w number (Err silence.Crc) (Err silence.Format) legal keeps h g = absurd (parity_apart tables grid w g.payload legal keeps.carrying h g.carried)
 one_answer tables grid w number (Err silence.Format) (Ok y) legal keeps h g = absurd (h.none (spelling_of y.format g.values) g.spells)
-one_answer tables grid w number (Err silence.Format) (Err (silence.Spot worse)) legal keeps h g = absurd (spot_apart grid w worse keeps g (receives_repeats grid w (repeats_decodes tables grid w (decodes_format tables grid w keeps h))))
-one_answer tables grid w number (Err silence.Format) (Err (silence.Repeat other)) legal keeps h g = absurd (repeat_apart grid w other keeps g (repeats_decodes tables grid w (decodes_format tables grid w keeps h)))
-one_answer tables grid w number (Err silence.Format) (Err silence.Code) legal keeps h g = absurd (code_apart tables grid w keeps g (decodes_format tables grid w keeps h))
-one_answer tables grid w number (Err silence.Format) (Err silence.Crc) legal keeps h g = absurd (parity_apart tables grid w h.payload legal keeps g h.carried)
+one_answer tables grid w number (Err silence.Format) (Err (silence.Spot worse)) legal keeps h g = absurd (spot_apart grid w worse keeps.carrying g (receives_repeats grid w (repeats_decodes tables grid w (decodes_format tables grid w keeps.carrying h))))
+one_answer tables grid w number (Err silence.Format) (Err (silence.Repeat other)) legal keeps h g = absurd (repeat_apart grid w other keeps.carrying g (repeats_decodes tables grid w (decodes_format tables grid w keeps.carrying h)))
+one_answer tables grid w number (Err silence.Format) (Err silence.Code) legal keeps h g = absurd (code_apart tables grid w keeps.carrying g (decodes_format tables grid w keeps.carrying h))
+one_answer tables grid w number (Err silence.Format) (Err silence.Crc) legal keeps h g = absurd (parity_apart tables grid w h.payload legal keeps.carrying g h.carried)
 one_answer tables grid w number (Err silence.Format) (Err silence.Format) legal keeps h g = refl
 
 -- so an answer that is told is the answer exactly where it is told
@@ -253,7 +252,7 @@ err_not_ok s h e = cc
 
 -- and the entry that is told is that of what is found among all spellings
 pub found_exactly : (tables : Tables) (grid : GridValue) (w : Watch) (number : ℕ) (result : Result Heard Silence) → AreTables tables → IsSound w
-    → AreInside grid w.symbol w.regs.items → IsAnswer tables grid w number result → result_ok result ≡ heard_at tables grid w number
+    → IsInside grid.blocks w → IsAnswer tables grid w number result → result_ok result ≡ heard_at tables grid w number
 found_exactly tables grid w number (Ok h) legal keeps inside told =
     let is : spelled tables grid w ≡ Some (spelling_of h.format told.values) =
     spelled_some tables grid w (spelling_of h.format told.values) legal keeps inside told.spells

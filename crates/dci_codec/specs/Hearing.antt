@@ -2,13 +2,12 @@
 use Rattle.std.specs.Prelude.{◌≡◌, ◌↔◌, ℕ, Bool, true, List, Option, Some, length, option_map}
 use Rattle.crc_mask.specs.Parity.{masked}
 use Rattle.dci_fields.specs.Payloads.{payload_of, shown, Carries}
-use Rattle.dmrs_qpsk.specs.PointsOnGrid.{AreInside}
 use Rattle.slot_grid.specs.Grid.{GridValue}
 use Rattle.slot_grid.specs.Image.{Agrees}
 use Rattle.table_files.specs.declared.tables.Tables.{Tables}
 use Rattle.table_files.specs.Permutation.{IsTable}
 use Rattle.monitor_plan.specs.declared.watch.Watch.{Watch}
-use Rattle.monitor_plan.specs.Watch.{fits, list_of, IsSound}
+use Rattle.monitor_plan.specs.Watch.{fits, list_of, IsSound, IsInside}
 use Rattle.dci_codec.specs.declared.heard.Heard.{Heard}
 use Rattle.dci_codec.specs.BlockImage.{block_image}
 use Rattle.dci_codec.specs.Spelling.{Spelling, spelled}
@@ -37,7 +36,7 @@ pub record Spells (tables : Tables) (grid : GridValue) (watch : Watch) (spelling
 abbrev pub FindsWhatIsSpelled : Type 0
 FindsWhatIsSpelled =
     (tables : Tables) (grid : GridValue) (watch : Watch) (spelling : Spelling) → AreTables tables → IsSound watch →
-    AreInside grid watch.symbol watch.regs.items →
+    IsInside grid.blocks watch →
     (spelled tables grid watch ≡ Some spelling) ↔ Spells tables grid watch spelling
 
 -- what is heard of a spelling at the watch of a number: its format, and those of its values that are shown

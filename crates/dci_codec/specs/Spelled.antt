@@ -5,9 +5,8 @@ use Rattle.dci_fields.specs.declared.fault.Given.{Given}
 use Rattle.dci_fields.specs.declared.formats.Format.{Format}
 use Rattle.dci_fields.specs.GivenValues.{settled}
 use Rattle.dci_fields.specs.Payloads.{payload_of}
-use Rattle.dmrs_qpsk.specs.PointsOnGrid.{AreInside}
 use Rattle.monitor_plan.specs.declared.watch.Watch.{Watch}
-use Rattle.monitor_plan.specs.Watch.{fits, list_of, IsSound}
+use Rattle.monitor_plan.specs.Watch.{fits, list_of, IsSound, IsInside}
 use Rattle.slot_grid.specs.Grid.{GridValue}
 use Rattle.slot_grid.specs.Image.{overwritten}
 use Rattle.table_files.specs.declared.tables.Tables.{Tables}
@@ -32,6 +31,6 @@ abbrev pub HearsWhatWasSpelled : Type 0
 HearsWhatWasSpelled =
     (tables : Tables) (watch : Watch) (format : Format) (given : List Given) (old new : GridValue) (number : ℕ) →
     AreTables tables → IsSound watch → fits watch format ≡ true →
-    AreInside old watch.symbol watch.regs.items → IsSpelled tables watch format given old new →
+    IsInside old.blocks watch → IsSpelled tables watch format given old new →
     Spells tables new watch (spelling_by watch format given)
     × (heard_at tables new watch number ≡ Some (heard_of watch number (spelling_by watch format given)))

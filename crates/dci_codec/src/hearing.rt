@@ -3,15 +3,13 @@ ghost use Rattle.std.specs.Prelude.{◌≡◌, ◌↔◌, true, ℕ, Bool, List,
 ghost use Rattle.std.specs.Result.{result_ok};
 ghost use Rattle.dci_fields.specs.Payloads.{Carries};
 ghost use Rattle.dci_fields.specs.declared.values.FieldValue.{FieldValue};
-ghost use Rattle.dmrs_qpsk.specs.PointsOnGrid.{AreInside};
-ghost use Rattle.monitor_plan.specs.Watch.{fits, list_of, IsSound};
+ghost use Rattle.monitor_plan.specs.Watch.{fits, list_of, IsCarrying, IsInside, IsSound};
 ghost use Rattle.dci_codec.specs.declared.heard.Heard.{Heard};
 ghost use Rattle.dci_codec.specs.declared.silence.Silence.{Silence};
 ghost use Rattle.dci_codec.specs.Hearing.{AreTables, IsHeard, IsReadAs, heard_at};
 ghost use Rattle.dci_codec.specs.Silences.{IsAnswer, IsPayloadAnswer, IsSilence};
 
 use crate::coding::code_at;
-use crate::lists::list_at;
 use crate::scrambling::scramble;
 use crate::{Heard, Silence};
 use bits_core::Payload;
@@ -28,7 +26,7 @@ use table_files::Tables;
 /// first (3GPP TS 38.212, 7.3).
 pub fn hear(tables: &Tables, watch: &Watch, number: u32, grid: &Grid) -> Result<Heard, Silence>
     requires sound { IsSound watch.now }
-    requires inside { AreInside grid.now watch.now.symbol watch.now.regs.items }
+    requires inside { IsInside grid.now.blocks watch.now }
     ensures heard { (h : Heard) → (result ≡ Ok h) ↔ IsHeard tables.now grid.now watch.now number h }
     ensures silent { (s : Silence) → (result ≡ Err s) ↔ IsSilence tables.now grid.now watch.now s }
     ensures found { result_ok result ≡ heard_at tables.now grid.now watch.now number }
@@ -39,7 +37,7 @@ pub fn hear(tables: &Tables, watch: &Watch, number: u32, grid: &Grid) -> Result<
 /// The same, stage by stage: the payload, then the format that it is of.
 fn hear_fields(tables: &Tables, watch: &Watch, number: u32, grid: &Grid) -> Result<Heard, Silence>
     requires sound { IsSound watch.now }
-    requires inside { AreInside grid.now watch.now.symbol watch.now.regs.items }
+    requires inside { IsInside grid.now.blocks watch.now }
     ensures answer { IsAnswer tables.now grid.now watch.now number result }
     ensures tables { AreTables tables.now }
 {
@@ -62,8 +60,8 @@ fn are_tables(tables: &Tables)
 /// The payload that the grid carries: the bits of the candidate, without their scrambling, are the code of the payload with
 /// its parity, masked by the handset's RNTI; or the stage that fails first.
 fn hear_payload(tables: &Tables, watch: &Watch, grid: &Grid) -> Result<Payload, Silence>
-    requires sound { IsSound watch.now }
-    requires inside { AreInside grid.now watch.now.symbol watch.now.regs.items }
+    requires carrying { IsCarrying watch.now }
+    requires inside { IsInside grid.now.blocks watch.now }
     ensures { IsPayloadAnswer tables.now grid.now watch.now result }
 {
     let bits = match take_bits(grid, watch.symbol, &watch.regs, watch.dmrs_id) {
@@ -118,5 +116,5 @@ fn fields_in(watch: &Watch, format: Format, payload: &Payload) -> Option<Values>
     ensures { (fields : List FieldValue) →
         (result ≡ Some fields) ↔ Carries (list_of watch.now format) format (length payload.now) payload.now fields }
 {
-    unpack(&list_at(watch, format), format, payload)
+    unpack(&watch.list(format), format, payload)
 }

@@ -5,7 +5,6 @@ mod coding;
 mod heard;
 mod hearing;
 pub mod laws;
-mod lists;
 mod same;
 mod scrambling;
 mod silence;

@@ -3,14 +3,12 @@ ghost use Rattle.std.specs.Prelude.{◌≡◌, ◌↔◌, true, Err, OnErr, OnOk
 ghost use Rattle.crc_mask.specs.Parity.{masked};
 ghost use Rattle.dci_fields.specs.declared.fault.FieldFault.{FieldFault};
 ghost use Rattle.dci_fields.specs.GivenValues.{IsFieldFault};
-ghost use Rattle.dmrs_qpsk.specs.PointsOnGrid.{AreInside};
-ghost use Rattle.monitor_plan.specs.Watch.{fits, list_of, IsSound};
+ghost use Rattle.monitor_plan.specs.Watch.{fits, list_of, IsCarrying, IsInside, IsSound};
 ghost use Rattle.slot_grid.specs.Image.{overwritten};
 ghost use Rattle.dci_codec.specs.BlockImage.{block_image};
 ghost use Rattle.dci_codec.specs.Spelled.{IsSpelled};
 
 use crate::coding::code_at;
-use crate::lists::list_at;
 use crate::scrambling::scramble;
 use bits_core::Payload;
 use crc_mask::attach;
@@ -31,18 +29,13 @@ pub fn spell(
     grid: &mut Grid,
 ) -> Result<(), FieldFault>
     requires sound { IsSound watch.now }
-    requires inside { AreInside grid.old watch.now.symbol watch.now.regs.items }
+    requires inside { IsInside grid.old.blocks watch.now }
     requires fitting { fits watch.now format ≡ true }
     ensures fault { (fault : FieldFault) → (result ≡ Err fault) ↔ IsFieldFault (list_of watch.now format) format given.now fault }
     ensures refused { OnErr result (grid.new ≡ grid.old) }
     ensures spelled { OnOk result (IsSpelled tables.now watch.now format given.now grid.old grid.new) }
 {
-    let payload = pack(
-        &list_at(watch, format),
-        format,
-        given,
-        usize::from(watch.size),
-    )?;
+    let payload = pack(&watch.list(format), format, given, usize::from(watch.size))?;
     put_payload(tables, watch, &payload, grid);
     Ok(())
 }
@@ -50,8 +43,8 @@ pub fn spell(
 /// Writes a payload of the watch's size: with its parity, masked by the watch's RNTI, coded, scrambled and modulated, beside
 /// the reference points.
 pub fn put_payload(tables: &Tables, watch: &Watch, payload: &Payload, grid: &mut Grid)
-    requires sound { IsSound watch.now }
-    requires inside { AreInside grid.old watch.now.symbol watch.now.regs.items }
+    requires carrying { IsCarrying watch.now }
+    requires inside { IsInside grid.old.blocks watch.now }
     requires size { length payload.now ≡ watch.now.size }
     ensures written { grid.new ≡ overwritten (block_image tables.now grid.old.slot watch.now (masked payload.now watch.now.rnti)) grid.old }
     ensures slot { grid.new.slot ≡ grid.old.slot }

@@ -8,4 +8,5 @@ mod RowReading
 pub mod GivenLists
 mod RowPacking
 pub mod PackingOutcomes
+pub mod FirstFieldFaults
 pub mod FormatsApart

@@ -22,22 +22,22 @@ no_some : {X : Type 0} (a : X) → None ≡ Some a → ⊥
 no_some a e = cc
 
 -- what is known at a place is not unknown there
-unknown_apart : (rows : List FieldRow) (format : Format) (given : List Given) (at n : ℕ) → at < n → IsUnknown rows format given at → AreKnownBelow rows format given n → ⊥
+pub unknown_apart : (rows : List FieldRow) (format : Format) (given : List Given) (at n : ℕ) → at < n → IsUnknown rows format given at → AreKnownBelow rows format given n → ⊥
 unknown_apart rows format given at n less (g, found, none) known =
     let (width, of, fits) = known at g less found in no_some width (sym none ∙ of)
 
 -- nor too large
-large_apart : (rows : List FieldRow) (format : Format) (given : List Given) (at n width : ℕ) → at < n → IsTooLarge rows format given at width → AreKnownBelow rows format given n → ⊥
+pub large_apart : (rows : List FieldRow) (format : Format) (given : List Given) (at n width : ℕ) → at < n → IsTooLarge rows format given at width → AreKnownBelow rows format given n → ⊥
 large_apart rows format given at n width less (g, found, of, large) known =
     let (w, of_w, fits) = known at g less found in
     let same : w ≡ width = some_same w width (sym of_w ∙ of) in
     let P : ℕ → Type 0 = λ x. g.value < 2 ^ x in
     omega (arith, large, subst P same fits)
 
-unknown_within : (rows : List FieldRow) (format : Format) (given : List Given) (at : ℕ) → IsUnknown rows format given at → at < length given
+pub unknown_within : (rows : List FieldRow) (format : Format) (given : List Given) (at : ℕ) → IsUnknown rows format given at → at < length given
 unknown_within rows format given at (g, found, none) = within_list given at g found
 
-large_within : (rows : List FieldRow) (format : Format) (given : List Given) (at width : ℕ) → IsTooLarge rows format given at width → at < length given
+pub large_within : (rows : List FieldRow) (format : Format) (given : List Given) (at width : ℕ) → IsTooLarge rows format given at width → at < length given
 large_within rows format given at width (g, found, of, large) = within_list given at g found
 
 -- a value is not of no field and of one

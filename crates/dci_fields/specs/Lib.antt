@@ -10,5 +10,6 @@ pub mod FittedRows
 pub mod Payloads
 pub mod ReadValues
 pub mod GivenValues
+pub mod FirstFieldFault
 pub mod Alignment
 pub mod Equality

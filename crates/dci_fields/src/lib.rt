@@ -6,6 +6,7 @@ mod fault;
 mod fitting;
 mod formats;
 mod formats_rows;
+pub mod laws;
 mod names;
 mod packing;
 mod raw_lists;

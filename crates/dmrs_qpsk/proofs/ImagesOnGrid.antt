@@ -4,7 +4,7 @@ use Rattle.std.proofs.lemmas.Bool.{cases_lt}
 use Rattle.std.proofs.lemmas.Option.{same_Some}
 use Rattle.slot_grid.specs.declared.places.Point.{Point}
 use Rattle.slot_grid.specs.Grid.{GridValue}
-use Rattle.slot_grid.specs.Image.{IsWithin, AreApart}
+use Rattle.slot_grid.specs.Image.{IsWithin, AreCompatible}
 use Rattle.coreset_map.specs.declared.places.Reg.{Reg}
 use Rattle.coreset_map.specs.RegOrder.{reg_at, AreRegs}
 use Rattle.dmrs_qpsk.specs.PointsOnGrid.{reg_point, rank_in, image_of, AreInside}
@@ -91,12 +91,12 @@ of_reg slot first id regs bits s c p e =
       }
     ]
 
--- where two lists of REGs share no symbol and block, their images share no place
-pub images_apart : (slot first id : ℕ) (regs : List Reg) (bits : List Bool) (slot' first' id' : ℕ) (regs' : List Reg) (bits' : List Bool)
+-- where two lists of REGs share no symbol and block, their images are alike wherever both have a point: nowhere
+pub images_compatible : (slot first id : ℕ) (regs : List Reg) (bits : List Bool) (slot' first' id' : ℕ) (regs' : List Reg) (bits' : List Bool)
     → ((i j : ℕ) → i < length regs → j < length regs' → first + (reg_at regs i).symbol ≡ first' + (reg_at regs' j).symbol
     → (reg_at regs i).block ≡ (reg_at regs' j).block → ⊥)
-    → AreApart (image_of slot first id regs bits) (image_of slot' first' id' regs' bits')
-images_apart slot first id regs bits slot' first' id' regs' bits' apart s c p q e f =
+    → AreCompatible (image_of slot first id regs bits) (image_of slot' first' id' regs' bits')
+images_compatible slot first id regs bits slot' first' id' regs' bits' apart s c p q e f =
     let a = of_reg slot first id regs bits s c p e in
     let b = of_reg slot' first' id' regs' bits' s c q f in
-    apart a.reg b.reg a.within b.within (a.symbol_is ∙ sym b.symbol_is) (omega (arith, a.place_is, b.place_is))
+    absurd (apart a.reg b.reg a.within b.within (a.symbol_is ∙ sym b.symbol_is) (omega (arith, a.place_is, b.place_is)))

@@ -3,7 +3,6 @@
 #![tactic(auto)]
 
 mod bytes;
-mod decimal_text;
 mod fault;
 mod head;
 pub mod laws;
@@ -12,7 +11,6 @@ mod points;
 mod reader;
 mod writer;
 
-pub use decimal_text::push_number;
 pub use fault::{GridError, GridFault};
 pub use reader::read_grid;
 pub use writer::write_grid;

@@ -3,8 +3,8 @@ ghost use Rattle.std.specs.Prelude.{◌≡◌, ◌++◌, ◌<◌, IfOk, OnOk};
 ghost use Rattle.grid_file.specs.GridText.{grid_text, grid_head, symbol_line};
 
 use crate::bytes::point_byte;
-use crate::decimal_text::push_number;
 use bits_core::NoMemory;
+use plain_text::{Piece, push_pieces};
 use slot_grid::Grid;
 use std::alloc::{AllocError, Global};
 
@@ -13,15 +13,19 @@ use std::alloc::{AllocError, Global};
 fn head_of(alloc: Global, grid: &Grid) -> Result<Vec<u8>, AllocError>
     ensures { IfOk result (λ text. text.items ≡ grid_head grid.now.mu grid.now.frame grid.now.slot grid.now.blocks) }
 {
-    let mut text = Vec::from_slice(alloc, b"nrpdcch grid 1\nmu ")?;
-    push_number(alloc, &mut text, u64::from(grid.mu()))?;
-    text.extend_from_slice(b" frame ")?;
-    push_number(alloc, &mut text, u64::from(grid.frame()))?;
-    text.extend_from_slice(b" slot ")?;
-    push_number(alloc, &mut text, u64::from(grid.slot()))?;
-    text.extend_from_slice(b" blocks ")?;
-    push_number(alloc, &mut text, u64::from(grid.blocks()))?;
-    text.push(b'\n')?;
+    let head = [
+        Piece::Text(b"nrpdcch grid 1\nmu "),
+        Piece::Number(u64::from(grid.mu())),
+        Piece::Text(b" frame "),
+        Piece::Number(u64::from(grid.frame())),
+        Piece::Text(b" slot "),
+        Piece::Number(u64::from(grid.slot())),
+        Piece::Text(b" blocks "),
+        Piece::Number(u64::from(grid.blocks())),
+        Piece::Text(b"\n"),
+    ];
+    let mut text = Vec::new(alloc);
+    push_pieces(alloc, &mut text, &head)?;
     Ok(text)
 }
 

@@ -6,3 +6,4 @@ pub mod SetFits
 pub mod WatchParts
 pub mod Plans
 pub mod SoundWatches
+pub mod SharedRegs

@@ -1,5 +1,5 @@
 -- The plan as the code makes it.
-use Rattle.std.proofs.Common.{◌≡◌, ℕ, ◌<◌, ◌↔◌, List, Result, Ok, Err, All, length, sym, ◌∙◌, ap, subst}
+use Rattle.std.proofs.Common.{◌≡◌, ℕ, ◌<◌, ◌≤◌, ◌↔◌, List, Result, Ok, Err, All, length, sym, ◌∙◌, ap, subst}
 use Rattle.rrc_settings.specs.declared.settings.RawCell.{RawCell}
 use Rattle.rrc_settings.specs.Legal.{IsLegal}
 use Rattle.dci_fields.specs.declared.sizes.Sizes.{Sizes}
@@ -12,7 +12,7 @@ use Rattle.monitor_budget.proofs.Allotments.{allotted-within}
 use Rattle.monitor_plan.specs.declared.watch.Watch.{Watch}
 use Rattle.monitor_plan.specs.declared.plan.PlanFault.{PlanFault}
 use Rattle.monitor_plan.specs.declared.plan.PlanFault.TheVariants.{CommonOver, NoMemory}
-use Rattle.monitor_plan.specs.Watch.{IsPlan, IsInside}
+use Rattle.monitor_plan.specs.Watch.{IsSound, AreAlike, IsPlan, IsInside}
 use Rattle.monitor_plan.specs.Watches.{watches_of}
 use Rattle.monitor_plan.specs.Planned.{over_by, watches_allotted, planned}
 use Rattle.monitor_plan.proofs.SoundWatches.{all-sound, all-inside, all-alike}
@@ -42,18 +42,19 @@ plan-over cell handset frame slot sizes over e f =
 
 pub plan-made : (cell : RawCell) (handset frame slot : ℕ) (sizes : Sizes) (a : Allotment) (items : List Watch) → IsLegal cell → handset < length cell.handsets
     → sizes ≡ sizes_of cell (handset_at cell handset) → Ok a ≡ allotted cell (handset_at cell handset) sizes frame slot
-    → items ≡ watches_of cell (handset_at cell handset) sizes a.sets.items → IsMade cell handset frame slot items
-plan-made cell handset frame slot sizes a items legal l e f g =
+    → items ≡ watches_of cell (handset_at cell handset) sizes a.sets.items → length items ≤ 11200 → IsMade cell handset frame slot items
+plan-made cell handset frame slot sizes a items legal l e f g few =
     let h = handset_at cell handset in
     let own = sizes_of cell h in
     let same : items ≡ watches_of cell h own a.sets.items = g ∙ ap (λ (s : Sizes). watches_of cell h s a.sets.items) e in
     let within = allotted-within cell h sizes frame slot a (sym f) in
     record {
       planned_is = plan-fits cell handset frame slot sizes a e f ∙ ap (λ (ws : List Watch). Ok ws) (sym g);
-      plan = subst IsPlan (sym same) (record {
-        sound = all-sound cell handset a.sets.items legal l within;
-        alike = all-alike cell handset own a.sets.items legal l within;
-      });
+      plan = record {
+        sound = subst (λ (ws : List Watch). All IsSound ws) (sym same) (all-sound cell handset a.sets.items legal l within);
+        alike = subst AreAlike (sym same) (all-alike cell handset own a.sets.items legal l within);
+        few = few;
+      };
       inside = subst (λ (ws : List Watch). All (IsInside cell.blocks) ws) (sym same) (all-inside cell handset a.sets.items legal l within);
     }
 

@@ -1,5 +1,5 @@
 -- Each watch of the sets of a legal cell is sound and inside the slot and the carrier, and those of one set are alike.
-use Rattle.std.proofs.Common.{◌≡◌, ℕ, ◌+◌, ◌*◌, ◌^◌, ◌<◌, ◌≤◌, ◌⊎◌, inl, inr, Bool, true, false, ◌&&◌, ◌==◌, cond, min, max, Option, Some, None, is_some, unwrap_or, IfSome, List, [], ◌∷◌, length, All, get_or, refl, sym, ◌∙◌, ap, subst, arith}
+use Rattle.std.proofs.Common.{◌≡◌, ℕ, zero, suc, ◌+◌, ◌*◌, ◌^◌, ◌<◌, ◌≤◌, ◌⊎◌, inl, inr, Bool, true, false, ◌&&◌, ◌==◌, cond, min, max, Option, Some, None, is_some, unwrap_or, IfSome, List, [], ◌∷◌, length, All, get_or, refl, sym, ◌∙◌, ap, subst, arith}
 use Rattle.std.specs.Option.{option_to_list}
 use Rattle.std.proofs.Math.Nat.{mod-lt}
 use Rattle.std.proofs.lemmas.Bool.{eqb-true, cases_order}
@@ -31,6 +31,7 @@ use Rattle.monitor_budget.specs.Counts.{set_at, coreset_of, cces_under, candidat
 use Rattle.monitor_budget.proofs.LegalSearchSets.{legal-set, number-once, coreset-there, are-asked}
 use Rattle.monitor_budget.proofs.Placed.{in-set, is-placed}
 use Rattle.monitor_plan.specs.declared.watch.Watch.{Watch}
+use Rattle.rrc_settings.specs.AggregationLevels.{is_level}
 use Rattle.monitor_plan.specs.Watch.{is_for_fallback, fits, list_of, HasRoomForOrder, IsSound, IsInside, watch_at, no_watch, AreAlike}
 use Rattle.monitor_plan.specs.Watches.{up_format, down_format, up_size, down_size, widths_in, list_at, watch_of, set_watches, watches_of}
 use Rattle.monitor_plan.proofs.SetFits.{legal-fit}
@@ -128,6 +129,10 @@ candidate-placed cell handset set sizes c h l m i =
     is-placed (cces_under cell hs s) (sizes_in sizes s.kind) s c
     (are-asked cell.cell hs.downlink.start (cces_under cell hs s) hs s (legal-set cell handset set h l m) refl) i
 
+level-least : (n : ℕ) → is_level n ≡ true → 1 ≤ n
+level-least zero h = cc
+level-least (suc n) h = omega arith
+
 pub sound-watch : (cell : RawCell) (handset set : ℕ) (c : Candidate) → IsLegal cell → handset < length cell.handsets → set < length (handset_at cell handset).sets.items
     → IsIn c (candidates_of cell (handset_at cell handset) (sizes_of cell (handset_at cell handset)) (set_at (handset_at cell handset) set))
     → IsSound (watch_of cell (handset_at cell handset) (sizes_of cell (handset_at cell handset)) (set_at (handset_at cell handset) set) c)
@@ -149,16 +154,21 @@ sound-watch cell handset set c h l m i =
       | inr e ↦ let x = f.down c.size e in (x.least, x.most)
     ] in
     record {
-      level = p.level;
-      count = length-candidate r c.start c.level a p.within;
-      order = candidate-order r c.start c.level a;
+      carrying = record {
+        level = p.level;
+        count = length-candidate r c.start c.level a p.within;
+        order = candidate-order r c.start c.level a;
+        scramble = scrambling-below s.kind cell.cell hs.rnti (coreset_of hs s).dmrs_id;
+        shortest = omega (arith, bounds.0);
+        longest = omega (arith, bounds.1);
+        room = omega (arith, bounds.1, level-least c.level p.level);
+      };
       least = bounds.0;
       most = bounds.1;
       up = fitted-holds (λ xs. width_of xs ≤ c.size) (up_size sizes s.kind) up c.size (λ e. (f.up c.size e).within);
       down = fitted-holds (λ xs. width_of xs ≤ c.size) (down_size sizes s.kind) down c.size (λ e. (f.down c.size e).within);
       up_list = fitted-holds IsFieldList (up_size sizes s.kind) up c.size (λ e. (f.up c.size e).list);
       down_list = fitted-holds IsFieldList (down_size sizes s.kind) down c.size (λ e. (f.down c.size e).list);
-      scramble = scrambling-below s.kind cell.cell hs.rnti (coreset_of hs s).dmrs_id;
       fallback = λ t. fitted-holds (HasRoomForOrder c.size) (down_size sizes s.kind) down c.size (f.room t c.size);
     }
 

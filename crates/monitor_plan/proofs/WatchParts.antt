@@ -1,5 +1,5 @@
 -- A watch from its parts.
-use Rattle.std.proofs.Common.{◌≡◌, ℕ, ◌+◌, ◌<◌, ◌≤◌, List, ◌++◌, ◌∷◌, [], Option, map, take, length, get_or, refl, sym, ◌∙◌, ap}
+use Rattle.std.proofs.Common.{◌≡◌, ℕ, ◌+◌, ◌*◌, ◌<◌, ◌≤◌, List, ◌++◌, ◌∷◌, [], Option, map, take, length, get_or, sym, ◌∙◌, ap, arith}
 use Rattle.std.specs.List.{flat_map}
 use Rattle.std.proofs.lemmas.List.{take_all, take_more, append-nil}
 use Rattle.std.proofs.lemmas.Grind.{flat_map-append}
@@ -61,21 +61,26 @@ unfolding set_watches
 set-made cell h sizes s candidates before now i e l h' =
     h' ∙ ap (λ cs. before ++ map (watch_of cell h sizes s) cs) (take_all i candidates l ∙ e)
 
+-- the watches of sets at some places, of which there are few
+pub record ArePushed (cell : RawCell) (h : Handset) (sizes : Sizes) (places : List ℕ) (n : ℕ) (now : List Watch) : Type 0 where
+  pub watches : now ≡ watches_of cell h sizes places
+  pub few : length now ≤ 1120 * n
+
+pub watches-none : (cell : RawCell) (h : Handset) (sizes : Sizes) (now : List Watch) → now ≡ [] → ArePushed cell h sizes [] 0 now
+unfolding watches_of
+watches-none cell h sizes now e = record { watches = e; few = omega (arith, ap length e) }
+
 -- the watches of one set more
-pub watches-none : (cell : RawCell) (h : Handset) (sizes : Sizes) → watches_of cell h sizes [] ≡ []
-unfolding watches_of
-watches-none cell h sizes = refl
-
 pub watches-more : (cell : RawCell) (h : Handset) (sizes : Sizes) (places : List ℕ) (i : ℕ) (now next : List Watch) → i < length places
-    → now ≡ watches_of cell h sizes (take i places) → next ≡ now ++ set_watches cell h sizes (set_at h (get_or places i 0))
-    → next ≡ watches_of cell h sizes (take (i + 1) places)
+    → ArePushed cell h sizes (take i places) i now → next ≡ now ++ set_watches cell h sizes (set_at h (get_or places i 0))
+    → length next ≤ length now + 1120 → ArePushed cell h sizes (take (i + 1) places) (i + 1) next
 unfolding watches_of
-watches-more cell h sizes places i now next l e f =
+watches-more cell h sizes places i now next l e f short =
     let each : ℕ → List Watch = λ p. set_watches cell h sizes (set_at h p) in
-    f ∙ ap (λ xs. xs ++ each (get_or places i 0)) e
-    ∙ sym (ap (flat_map each) (take_more places i 0 l) ∙ flat_map-append each (take i places) (get_or places i 0 ∷ [])
-    ∙ ap (λ xs. flat_map each (take i places) ++ xs) (append-nil (each (get_or places i 0))))
-
-pub watches-all : (cell : RawCell) (h : Handset) (sizes : Sizes) (places : List ℕ) (i : ℕ) (now : List Watch) → length places ≤ i
-    → now ≡ watches_of cell h sizes (take i places) → now ≡ watches_of cell h sizes places
-watches-all cell h sizes places i now l e = e ∙ ap (λ xs. watches_of cell h sizes xs) (take_all i places l)
+    record {
+      watches =
+          f ∙ ap (λ xs. xs ++ each (get_or places i 0)) e.watches
+          ∙ sym (ap (flat_map each) (take_more places i 0 l) ∙ flat_map-append each (take i places) (get_or places i 0 ∷ [])
+          ∙ ap (λ xs. flat_map each (take i places) ++ xs) (append-nil (each (get_or places i 0))));
+      few = omega (arith, e.few, short);
+    }

@@ -1,10 +1,10 @@
 //! The formats of a kind of set, their sizes and what decides their widths.
-ghost use Rattle.std.specs.Prelude.{◌≡◌};
-ghost use Rattle.monitor_plan.specs.Watch.{fits, is_for_fallback};
+ghost use Rattle.std.specs.Prelude.{◌≡◌, true, Some, is_some};
+ghost use Rattle.monitor_plan.specs.Watch.{fits, is_for_fallback, list_of, IsSound};
 ghost use Rattle.monitor_plan.specs.Watches.{down_format, down_size, up_format, up_size, widths_in};
 
 use crate::Watch;
-use dci_fields::{Format, Sizes, Widths};
+use dci_fields::{FieldList, Format, Sizes, Widths, order_list};
 use rrc_settings::SetKind;
 
 impl Watch {
@@ -19,6 +19,35 @@ impl Watch {
             Format::F01 => !is_for_fallback(self.kind) && self.up.is_some(),
             Format::F11 => !is_for_fallback(self.kind) && self.down.is_some(),
         }
+    }
+
+    /// The fields of a format that fits the watch.
+    pub fn list(&self, format: Format) -> FieldList
+        requires sound { IsSound self.now }
+        requires fits { fits self.now format ≡ true }
+        ensures { result ≡ list_of self.now format }
+    {
+        match format {
+            Format::F00 => copy_of(&self.up),
+            Format::F10 => copy_of(&self.down),
+            Format::Order => order_list(&copy_of(&self.down)),
+            Format::F01 => copy_of(&self.up),
+            Format::F11 => copy_of(&self.down),
+        }
+    }
+}
+
+/// A copy of the list, where there is one.
+fn copy_of(list: &Option<FieldList>) -> FieldList
+    requires { is_some list.now ≡ true }
+    ensures { list.now ≡ Some result }
+{
+    match list {
+        Some(list) => match list.clone() {
+            Ok(copy) => copy,
+            Err(_) => unreachable!(),
+        },
+        None => unreachable!(),
     }
 }
 

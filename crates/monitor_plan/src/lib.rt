@@ -2,6 +2,7 @@
 #![tactic(auto)]
 
 mod formats;
+pub mod laws;
 mod lists;
 mod making;
 mod plan;

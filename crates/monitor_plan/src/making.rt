@@ -27,7 +27,8 @@ pub(crate) fn push_set(
     requires handset { handset < length cell.now.handsets }
     requires set { set < length (handset_at cell.now handset).sets.items }
     requires sizes { sizes.now ≡ sizes_of cell.now (handset_at cell.now handset) }
-    ensures { OnOk result (watches.new.items ≡ watches.old.items ++ set_watches cell.now (handset_at cell.now handset) sizes.now (set_at (handset_at cell.now handset) set)) }
+    ensures watches { OnOk result (watches.new.items ≡ watches.old.items ++ set_watches cell.now (handset_at cell.now handset) sizes.now (set_at (handset_at cell.now handset) set)) }
+    ensures few { OnOk result (length watches.new.items ≤ length watches.old.items + 1120) }
 {
     let candidates = candidates_of(cell, handset, set, sizes);
     let map = Map::of(cell, handset, coreset_under(cell, handset, set));

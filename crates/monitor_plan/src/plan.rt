@@ -95,7 +95,8 @@ fn watches_of(
     requires handset { handset < length cell.now.handsets }
     requires places { All (λ place. place < length (handset_at cell.now handset).sets.items) places.now }
     requires sizes { sizes.now ≡ sizes_of cell.now (handset_at cell.now handset) }
-    ensures { IfOk result (λ watches. watches.items ≡ watches_of cell.now (handset_at cell.now handset) sizes.now places.now) }
+    ensures watches { IfOk result (λ watches. watches.items ≡ watches_of cell.now (handset_at cell.now handset) sizes.now places.now) }
+    ensures few { IfOk result (λ watches. length watches.items ≤ 1120 * length places.now) }
 {
     let mut watches = Vec::new(alloc);
     for place in places {

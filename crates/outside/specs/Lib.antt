@@ -1,3 +1,6 @@
+pub mod Missed
+pub mod Noted
+pub mod Views
 pub mod Causes
 pub mod Taken
 pub mod Memory

@@ -1,8 +1,9 @@
 -- What is seen of a shelf and of a sink in memory.
-use Rattle.std.specs.Prelude.{◌≡◌, ◌⊎◌, ◌≤◌, ◌-◌, ℕ, min, List, length, Option, None, nat_eq}
+use Rattle.std.specs.Prelude.{◌≡◌, ◌⊎◌, ◌<◌, ◌≤◌, ◌-◌, ℕ, min, List, length, Option, None, IfSome, nat_eq}
 use Rattle.std.specs.Option.{option_map}
 use Rattle.std.specs.List.{Contains, find}
 use Rattle.std.specs.Cmp.Lexicographic.{pointwise}
+use Rattle.outside.specs.Missed.{Missed}
 
 -- an object: its name and its bytes
 pub record Object : Type 0 where
@@ -13,17 +14,23 @@ pub record Object : Type 0 where
 abbrev pub bytes_of : List Object → List ℕ → Option (List ℕ)
 bytes_of objects name = option_map (λ object. object.bytes) (find (λ object. pointwise nat_eq object.name name) objects)
 
--- a shelf in memory: its objects, the numbers of the calls that fail, the number of the next call, and its counts
+-- a shelf in memory: its objects, the numbers of the calls that fail, the number of the next call, its counts, and the
+-- names of the fetches that gave nothing
 pub record Shelved : Type 0 where
   pub objects : List Object
   pub failing : List ℕ
   pub calls : ℕ
   pub faults : ℕ
   pub longs : ℕ
+  pub missed : List Missed
 
 -- the next fetch of this name fails: its number is listed, or no object has the name
 abbrev pub FetchFails : Shelved → List ℕ → Type 0
 FetchFails shelf name = Contains shelf.failing shelf.calls ⊎ (bytes_of shelf.objects name ≡ None)
+
+-- the next fetch of this name finds more bytes than the limit
+abbrev pub FindsTooMuch : Shelved → List ℕ → ℕ → Type 0
+FindsTooMuch shelf name limit = (FetchFails shelf name → ⊥) × IfSome (bytes_of shelf.objects name) (λ bytes. limit < length bytes)
 
 -- a sink in memory: what it took, how many bytes it has room for, how many it takes at once,
 -- the numbers of the calls that fail, the number of the next call, and the count of faults

@@ -1,3 +1,8 @@
+ghost use Rattle.std.specs.Prelude.{◌≡◌};
+ghost use Rattle.outside.specs.declared.faults.FetchFault.TheVariants as faults;
+
+use std::alloc::AllocError;
+
 /// Why a fetch gave no bytes.
 #[derive(Clone, Copy, Debug, PartialEq, Eq)]
 pub enum FetchFault {
@@ -7,6 +12,14 @@ pub enum FetchFault {
     TooLong,
     /// Memory ran out.
     NoMemory,
+}
+
+impl From<AllocError> for FetchFault {
+    ghost from_gives = { λ _ fault. fault ≡ faults.NoMemory };
+
+    fn from(_error: AllocError) -> FetchFault {
+        FetchFault::NoMemory
+    }
 }
 
 /// A piece could not be written.

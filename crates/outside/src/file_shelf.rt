@@ -1,6 +1,7 @@
-ghost use Rattle.std.specs.Prelude.{◌≡◌, ◌<◌, ◌≤◌, [], None, length, IfOk, IfSome, IsErr, OnOk};
+ghost use Rattle.std.specs.Prelude.{◌≡◌, ◌<◌, ◌≤◌, [], None, length, IfOk, IfSome, IsErr, OnOk, OnErr};
 ghost use Rattle.std.specs.Result.{IsErrOf};
 
+use crate::misses::Misses;
 use crate::{FetchFault, Shelf};
 use std::alloc::Global;
 use std::fs;
@@ -15,8 +16,7 @@ const PIECE: usize = 4096;
 #[derive(Drop)]
 pub struct FileShelf<'a, R> {
     rt: &'a R,
-    faults: u64,
-    longs: u64,
+    misses: Misses,
 }
 
 impl<'a, R> Model for FileShelf<'a, R> {
@@ -24,52 +24,50 @@ impl<'a, R> Model for FileShelf<'a, R> {
 
     ghost Value = { Counts };
 
-    ghost view = { λ s. record { faults = s.faults; longs = s.longs } };
+    ghost view = { λ s. s.misses };
 }
 
 impl<'a, R: Files> FileShelf<'a, R> {
     /// A shelf of the runtime's files, by their paths. A file that is missing or can't be read is a fault.
     pub fn new(rt: &'a R) -> FileShelf<'a, R>
-        ensures { result ≡ record { faults = 0; longs = 0 } }
+        ensures { result ≡ record { faults = 0; longs = 0; missed = [] } }
     {
         FileShelf {
             rt,
-            faults: 0,
-            longs: 0,
+            misses: Misses::new(),
         }
     }
 }
 
 impl<'a, R: Files> Shelf for FileShelf<'a, R> {
-    ghost told = { λ _ _. None };
-
-    ghost faults = { λ s. s.faults };
-
-    ghost longs = { λ s. s.longs };
+    ghost shows = { λ s. record { told = λ _. None; faults = s.faults; longs = s.longs; missed = s.missed } };
 
     ghost may = { λ _ _. Unit {0} };
 
     fn fetch(
         &mut self,
-        _alloc: Global,
+        alloc: Global,
         name: &str,
         limit: usize,
         into: &mut Vec<u8>,
     ) -> Result<(), FetchFault> {
         into.clear();
-        let read = read_opened(fs::open(self.rt, name), limit, into);
-        match read {
-            Ok(()) => return Ok(()),
-            Err(FetchFault::Failed) => self.faults = self.faults.saturating_add(1),
-            Err(FetchFault::TooLong) => self.longs = self.longs.saturating_add(1),
-            Err(FetchFault::NoMemory) => {}
+        match read_opened(fs::open(self.rt, name), limit, into) {
+            Ok(()) => Ok(()),
+            Err(FetchFault::Failed) => {
+                self.misses.fail(alloc, name)?;
+                Err(FetchFault::Failed)
+            }
+            Err(FetchFault::TooLong) => {
+                self.misses.overrun(alloc, name)?;
+                Err(FetchFault::TooLong)
+            }
+            Err(FetchFault::NoMemory) => Err(FetchFault::NoMemory),
         }
-        into.clear();
-        read
     }
 }
 
-/// Reads what was opened, within `limit` bytes. What couldn't be opened is a fault.
+/// Reads what was opened, within `limit` bytes. What couldn't be opened is a fault. After a refusal `into` is empty.
 fn read_opened<F: Read + Drop>(
     opened: io::Result<F>,
     limit: usize,
@@ -78,13 +76,20 @@ fn read_opened<F: Read + Drop>(
     requires { into.old.items ≡ [] }
     ensures fits { OnOk result (length into.new.items ≤ limit) }
     ensures unopened { IsErr opened → IsErrOf result FetchFault.Failed }
+    ensures emptied { OnErr result (into.new.items ≡ []) }
 
     // Where the opened file tells what it has, these are the bytes, and `TooLong` comes only where there are more.
     ensures whole { IfOk opened (λ file. OnOk result (IfSome (F.remaining file) (λ bytes. into.new.items ≡ bytes))) }
     ensures longer { IfOk opened (λ file. IsErrOf result FetchFault.TooLong → IfSome (F.remaining file) (λ bytes. limit < length bytes)) }
 {
     match opened {
-        Ok(mut file) => read_within(&mut file, limit, into),
+        Ok(mut file) => match read_within(&mut file, limit, into) {
+            Ok(()) => Ok(()),
+            Err(fault) => {
+                into.clear();
+                Err(fault)
+            }
+        },
         Err(_) => Err(FetchFault::Failed),
     }
 }

@@ -6,6 +6,7 @@ mod faults;
 mod file_shelf;
 mod memory_shelf;
 mod memory_sink;
+mod misses;
 mod shelves;
 mod sinks;
 mod std_sink;

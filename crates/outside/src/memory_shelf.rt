@@ -1,10 +1,11 @@
-ghost use Rattle.std.specs.Prelude.{◌≡◌, ◌<◌, ◌↔◌, ℕ, List, map, length, IfSome};
+ghost use Rattle.std.specs.Prelude.{◌≡◌, ◌⊎◌, ℕ, List, [], map, length};
 ghost use Rattle.std.specs.Option.{option_map};
 ghost use Rattle.std.specs.Result.{IsErrOf};
 ghost use Rattle.outside.specs.Causes.{Fetches, next_count};
 ghost use Rattle.outside.specs.Memory.{bytes_of};
 ghost use Rattle.outside.specs.Named.{object_of};
 
+use crate::misses::Misses;
 use crate::{FetchFault, Shelf};
 use std::alloc::Global;
 use std::marker::Model;
@@ -22,8 +23,7 @@ pub struct MemoryShelf {
     objects: Vec<NamedBytes>,
     failing: Vec<u64>,
     calls: u64,
-    faults: u64,
-    longs: u64,
+    misses: Misses,
 }
 
 impl Model for MemoryShelf {
@@ -38,8 +38,9 @@ impl Model for MemoryShelf {
       objects = map object_of s.objects.items;
       failing = s.failing.items;
       calls = s.calls;
-      faults = s.faults;
-      longs = s.longs;
+      faults = s.misses.faults;
+      longs = s.misses.longs;
+      missed = s.misses.missed;
     } };
 }
 
@@ -55,42 +56,41 @@ impl MemoryShelf {
           calls = 0;
           faults = 0;
           longs = 0;
+          missed = [];
         } }
     {
         MemoryShelf {
             objects,
             failing,
             calls: 0,
-            faults: 0,
-            longs: 0,
+            misses: Misses::new(),
         }
     }
 }
 
 impl Shelf for MemoryShelf {
-    ghost use Rattle.outside.specs.Memory.{bytes_of, FetchFails};
+    ghost use Rattle.outside.specs.Memory.{bytes_of, FetchFails, FindsTooMuch};
 
-    ghost told = { λ s. bytes_of s.objects };
-
-    ghost faults = { λ s. s.faults };
-
-    ghost longs = { λ s. s.longs };
+    ghost shows = { λ s. record { told = bytes_of s.objects; faults = s.faults; longs = s.longs; missed = s.missed } };
 
     ghost may = { λ _ _. Unit {0} };
 
     fn fetch(
         &mut self,
-        _alloc: Global,
+        alloc: Global,
         name: &str,
         limit: usize,
         into: &mut Vec<u8>,
     ) -> Result<(), FetchFault>
-        ensures fetched { Fetches (bytes_of self.old.objects name.now) limit self.old.faults self.new.faults
-            self.old.longs self.new.longs into.new.items result }
+        ensures fetched { Fetches (record { told = bytes_of self.old.objects; faults = self.old.faults; longs = self.old.longs; missed = self.old.missed })
+            (record { told = bytes_of self.new.objects; faults = self.new.faults; longs = self.new.longs; missed = self.new.missed })
+            name.now limit into.new.items result }
 
-        ensures fails { IsErrOf result FetchFault.Failed ↔ FetchFails self.old name.now }
-        ensures long { IsErrOf result FetchFault.TooLong ↔ ((FetchFails self.old name.now → ⊥) ×
-            IfSome (bytes_of self.old.objects name.now) (λ bytes. limit < length bytes)) }
+        // Which calls fail and which find too much; where the name can't be noted, the answer is `NoMemory`.
+        ensures failed { IsErrOf result FetchFault.Failed → FetchFails self.old name.now }
+        ensures fails { FetchFails self.old name.now → IsErrOf result FetchFault.Failed ⊎ IsErrOf result FetchFault.NoMemory }
+        ensures longer { IsErrOf result FetchFault.TooLong → FindsTooMuch self.old name.now limit }
+        ensures long { FindsTooMuch self.old name.now limit → IsErrOf result FetchFault.TooLong ⊎ IsErrOf result FetchFault.NoMemory }
         ensures numbered { self.new.calls ≡ next_count self.old.calls }
         ensures set_up { (self.new.objects ≡ self.old.objects) × (self.new.failing ≡ self.old.failing) }
     {
@@ -98,15 +98,15 @@ impl Shelf for MemoryShelf {
         let call = self.calls;
         self.calls = call.saturating_add(1);
         if self.failing.contains(&call) {
-            self.faults = self.faults.saturating_add(1);
+            self.misses.fail(alloc, name)?;
             return Err(FetchFault::Failed);
         }
         let Some(bytes) = find(self.objects.as_slice(), name) else {
-            self.faults = self.faults.saturating_add(1);
+            self.misses.fail(alloc, name)?;
             return Err(FetchFault::Failed);
         };
         if bytes.len() > limit {
-            self.longs = self.longs.saturating_add(1);
+            self.misses.overrun(alloc, name)?;
             return Err(FetchFault::TooLong);
         }
         match into.extend_from_slice(bytes) {

@@ -83,9 +83,7 @@ impl MemorySink {
 impl Sink for MemorySink {
     ghost use Rattle.outside.specs.Memory.{PutFails, share_of};
 
-    ghost taken = { λ s. Some s.bytes };
-
-    ghost faults = { λ s. s.faults };
+    ghost shows = { λ s. record { taken = Some s.bytes; faults = s.faults } };
 
     fn put(&mut self, piece: &[u8]) -> Result<usize, Failed>
         ensures empty { piece.now ≡ [] → result ≡ Ok 0 }

@@ -32,9 +32,7 @@ impl<W: Write + Drop> StdSink<W> {
 }
 
 impl<W: Write + Drop> Sink for StdSink<W> {
-    ghost taken = { λ _. None };
-
-    ghost faults = { λ s. s.faults };
+    ghost shows = { λ s. record { taken = None; faults = s.faults } };
 
     fn put(&mut self, piece: &[u8]) -> Result<usize, Failed>
         ensures empty { piece.now ≡ [] → result ≡ Ok 0 }

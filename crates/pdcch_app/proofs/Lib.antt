@@ -1,8 +1,6 @@
-pub mod Taking
-pub mod Working
-pub mod Completing
-pub mod Writings
+pub mod Usages
 pub mod RunPromises
-pub mod FirstPlans
-pub mod FirstWatches
-pub mod GrantPayloads
+pub mod Listeners
+pub mod SlotsOver
+pub mod Placings
+pub mod Spellings

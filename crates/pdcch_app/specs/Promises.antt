@@ -1,71 +1,59 @@
--- What every run promises, as sentences over what a run leaves.
-use Rattle.std.specs.Prelude.{◌≡◌, ◌<◌, ◌≤◌, ◌⊎◌, ℕ, true, false, List, [], ◌∷◌, Option, Some, None, Ok, String, length, codes}
+-- What a run of the program promises, as sentences over what it leaves and over its outcome.
+use Rattle.std.specs.Prelude.{◌≡◌, ◌≤◌, ◌⊎◌, ℕ, cond, List, [], ◌∷◌, Some, None, Ok, String, length}
+use Rattle.std.specs.List.{list_all}
 use Rattle.std.specs.declared.alloc.Global.{Global}
+use Rattle.outside.specs.Views.{ShelfView, SinkView}
 use Rattle.settings_json.specs.First.{first_fault_in, raw_in}
 use Rattle.table_files.specs.TableText.{read_table}
 use Rattle.table_files.specs.declared.tables.Tables.{Tables}
-use Rattle.pdcch_app.specs.declared.status.Status.{Status}
-use Rattle.pdcch_app.specs.declared.status.Status.TheVariants as ends
-use Rattle.pdcch_app.specs.declared.words.Command.TheVariants.{Write, Search}
-use Rattle.pdcch_app.specs.declared.first_grant.FirstGrant.{FirstGrant}
-use Rattle.slot_grid.specs.Grid.{GridValue}
-use Rattle.dci_codec.specs.Hearing.{heard_at}
-use Rattle.pdcch_app.specs.FirstCells.{is_first}
+use Rattle.grant_file.specs.First.{first_fault_in as first_grants_fault, grants_in}
 use Rattle.grid_file.specs.FoundGrid.{reading_of}
 use Rattle.grid_file.specs.GridText.{grid_text}
-use Rattle.grant_file.specs.First.{first_fault_in as first_grants_fault, grants_in}
-use Rattle.pdcch_app.specs.FirstForms.{first_numerology}
-use Rattle.pdcch_app.specs.FirstGrants.{first_grant_of}
-use Rattle.pdcch_app.specs.Outcome.{given_of, limit, is_done}
+use Rattle.slot_grid.specs.Grid.{GridValue}
+use Rattle.cell_placer.specs.Opened.{opened}
+use Rattle.cell_placer.specs.Placing.{DeskValue, fates, desk_after}
+use Rattle.run_steps.specs.declared.statuses.Status.{Status}
+use Rattle.run_steps.specs.declared.statuses.Status.TheVariants as ends
+use Rattle.run_steps.specs.Outcome.{given_of, limit}
+use Rattle.run_steps.specs.Ran.{Ran}
+use Rattle.pdcch_app.specs.declared.words.Command.TheVariants.{Write, Search}
 use Rattle.pdcch_app.specs.Outcomes.{outcome}
-use Rattle.pdcch_app.specs.Ran.{Ran}
-use Rattle.pdcch_app.specs.Report.{report}
-use Rattle.pdcch_app.specs.Words.{legal}
-use Rattle.pdcch_app.specs.Written.{grid_of_grant, first_watch}
-
--- where the shelf met a fault, the run ends as a fault of reading or of writing, or for want of memory
-abbrev pub EndsAsReadFault : Type 0
-EndsAsReadFault = (words : List (String Global)) (told : List ℕ → Option (List ℕ)) (fo fn lo ln : ℕ) (result : Status) (oo on : Option (List ℕ)) (ofo ofn : ℕ) (eo en : Option (List ℕ)) (efo efn : ℕ)
-    → Ran words told fo fn lo ln result oo on ofo ofn eo en efo efn → fo < fn
-    → (result ≡ ends.ReadFault) ⊎ ((result ≡ ends.WriteFault) ⊎ (result ≡ ends.NoMemory))
-
--- where a sink met a fault, the run ends as a fault of writing
-abbrev pub EndsAsWriteFault : Type 0
-EndsAsWriteFault = (words : List (String Global)) (told : List ℕ → Option (List ℕ)) (fo fn lo ln : ℕ) (result : Status) (oo on : Option (List ℕ)) (ofo ofn : ℕ) (eo en : Option (List ℕ)) (efo efn : ℕ)
-    → Ran words told fo fn lo ln result oo on ofo ofn eo en efo efn → (ofo < ofn) ⊎ (efo < efn) → result ≡ ends.WriteFault
-
--- a run that refused its job and met no fault of a sink wrote nothing to the output
-abbrev pub RefusesSilently : Type 0
-RefusesSilently = (words : List (String Global)) (told : List ℕ → Option (List ℕ)) (fo fn lo ln : ℕ) (result : Status) (oo on : Option (List ℕ)) (ofo ofn : ℕ) (eo en : Option (List ℕ)) (efo efn : ℕ)
-    → Ran words told fo fn lo ln result oo on ofo ofn eo en efo efn → is_done result ≡ false → (result ≡ ends.WriteFault → ⊥) → on ≡ oo
+use Rattle.pdcch_app.specs.Reporting.{Listener, reported, listeners_of, reported_text}
+use Rattle.pdcch_app.specs.Words.{legal, named, handset}
+use Rattle.pdcch_app.specs.Writing.{is_placed, refusal_lines}
 
 -- words that are not legal end as such, or for want of memory or a fault of writing
 abbrev pub RefusesWords : Type 0
-RefusesWords = (words : List (String Global)) (told : List ℕ → Option (List ℕ)) (fo fn lo ln : ℕ) (result : Status) (oo on : Option (List ℕ)) (ofo ofn : ℕ) (eo en : Option (List ℕ)) (efo efn : ℕ)
-    → Ran words told fo fn lo ln result oo on ofo ofn eo en efo efn → legal words ≡ None
+RefusesWords = (words : List (String Global)) (shelf_old shelf_new : ShelfView) (result : Status) (out_old out_new err_old err_new : SinkView)
+    → Ran (outcome words) (named words) shelf_old shelf_new result out_old out_new err_old err_new → legal words ≡ None
     → (result ≡ ends.Usage) ⊎ ((result ≡ ends.WriteFault) ⊎ (result ≡ ends.NoMemory))
 
--- legal settings of a first cell, any two tables and legal first grants are written as the text of the grid with the grant on it
-abbrev pub WritesFirstCells : Type 0
-WritesFirstCells = (words : List (String Global)) (settings reliability input_order grants : List ℕ) (tables : Tables) (grant : FirstGrant)
+-- for legal words of `write`, every legal cell, any two tables and every legal list of grants, where no handset's common sets
+-- exceed a limit in the slot: the output is the text of the grid that the grants leave on the blank grid of the slot, the error
+-- output has a line for each refused grant in order, and the status says whether there was one
+abbrev pub WritesEveryList : Type 0
+WritesEveryList = (words : List (String Global)) (settings reliability input_order grants : List ℕ) (tables : Tables) (desk : DeskValue)
     → legal words ≡ Some Write
     → length settings ≤ limit → length reliability ≤ limit → length input_order ≤ limit → length grants ≤ limit
-    → first_fault_in settings ≡ None → is_first (raw_in settings) ≡ true
-    → read_table 1024 reliability ≡ Ok tables.reliability → read_table 164 input_order ≡ Ok tables.input_order → first_grants_fault first_numerology grants ≡ None → first_grant_of (grants_in grants) ≡ Some grant
+    → first_fault_in settings ≡ None → read_table 1024 reliability ≡ Ok tables.reliability → read_table 164 input_order ≡ Ok tables.input_order
+    → first_grants_fault (raw_in settings).mu grants ≡ None
+    → opened (raw_in settings) (grants_in grants).frame (grants_in grants).slot (length (grants_in grants).grants) ≡ Ok desk
     → outcome words (given_of settings ∷ given_of reliability ∷ given_of input_order ∷ given_of grants ∷ [])
-    ≡ record { status = ends.Done; out = grid_text (grid_of_grant tables (raw_in settings) grant); err = [] }
+    ≡ record {
+      status = cond (list_all is_placed (fates desk.ledger (grants_in grants).grants)) ends.Done ends.GrantsRefused;
+      out = grid_text (desk_after tables desk (grants_in grants).grants).grid;
+      err = refusal_lines 0 (grants_in grants).grants (fates desk.ledger (grants_in grants).grants);
+    }
 
--- legal settings of a first cell, any two tables and the text of a grid of these settings in frame 0 and slot 0 give the report of what the grid spells
-abbrev pub SearchesFirstCells : Type 0
-SearchesFirstCells = (words : List (String Global)) (settings reliability input_order grid : List ℕ) (tables : Tables) (points : GridValue)
+-- for legal words of `search`, every legal cell, any two tables and every grid of the cell, where the handset that the words name is
+-- in the cell and no reported handset's common sets exceed a limit in the slot: the output is the report of what each reported
+-- handset hears, the error output is empty, and the status is that of a job that was done
+abbrev pub SearchesEveryGrid : Type 0
+SearchesEveryGrid = (words : List (String Global)) (settings reliability input_order grid : List ℕ) (tables : Tables) (points : GridValue) (handsets : List ℕ) (listeners : List Listener)
     → legal words ≡ Some Search
     → length settings ≤ limit → length reliability ≤ limit → length input_order ≤ limit → length grid ≤ limit
-    → first_fault_in settings ≡ None → is_first (raw_in settings) ≡ true
-    → read_table 1024 reliability ≡ Ok tables.reliability → read_table 164 input_order ≡ Ok tables.input_order → reading_of grid ≡ Ok points
-    → points.mu ≡ (raw_in settings).mu → points.blocks ≡ (raw_in settings).blocks → points.frame ≡ 0 → points.slot ≡ 0
+    → first_fault_in settings ≡ None → read_table 1024 reliability ≡ Ok tables.reliability → read_table 164 input_order ≡ Ok tables.input_order
+    → reading_of grid ≡ Ok points → points.mu ≡ (raw_in settings).mu → points.blocks ≡ (raw_in settings).blocks
+    → reported (raw_in settings) (handset words) ≡ Ok handsets → listeners_of (raw_in settings) points.frame points.slot handsets ≡ Ok listeners
     → outcome words (given_of settings ∷ given_of reliability ∷ given_of input_order ∷ given_of grid ∷ [])
-    ≡ record {
-      status = ends.Done;
-      out = report points (codes "alpha") (first_watch (raw_in settings)) (heard_at tables points (first_watch (raw_in settings)) 0);
-      err = [];
-    }
+    ≡ record { status = ends.Done; out = reported_text (raw_in settings) tables points listeners; err = [] }

@@ -1,50 +1,78 @@
 -- Which words are legal, and which of them name files.
-use Rattle.std.specs.Prelude.{ℕ, Bool, true, false, cond, not, ◌&&◌, eqb, List, [], ◌∷◌, Option, Some, None, length, map, get_or, codes, option_and_then, String}
+use Rattle.std.specs.Prelude.{ℕ, Bool, cond, ◌&&◌, eqb, leb, List, [], ◌∷◌, Option, Some, None, length, get_or, slice_get, find, codes, option_and_then, String}
+use Rattle.std.specs.List.{list_all}
 use Rattle.std.specs.Str.{bytes_eq}
 use Rattle.std.specs.String.{string_bytes}
 use Rattle.std.specs.declared.alloc.Global.{Global}
+use Rattle.pdcch_app.specs.declared.arguments.Flag.{Flag}
+use Rattle.pdcch_app.specs.declared.arguments.Flag.TheVariants.{Handset}
 use Rattle.pdcch_app.specs.declared.words.Command.{Command}
 use Rattle.pdcch_app.specs.declared.words.Command.TheVariants.{Write, Search}
+use Rattle.pdcch_app.specs.declared.words.Use.{Use}
+use Rattle.pdcch_app.specs.declared.words.Use.TheVariants.{Never, AtMostOnce}
+use Rattle.pdcch_app.specs.Arguments.{Argument, arguments, arguments_after, flags, texts_under, are_plain}
+
+-- the name of a command
+abbrev pub command_name : Command → List ℕ
+command_name Write = codes "write"
+command_name Search = codes "search"
+
+-- all commands
+abbrev pub commands : List Command
+commands = Write ∷ Search ∷ []
 
 -- the command that the first word names
 abbrev pub command_of : List ℕ → Option Command
-command_of word =
-    cond (bytes_eq word (codes "write")) (Some Write) (cond (bytes_eq word (codes "search")) (Some Search) None)
+command_of word = find (λ command. bytes_eq word (command_name command)) commands
 
 -- how many files a command takes
 abbrev pub count_of : Command → ℕ
 count_of Write = 4
 count_of Search = 4
 
--- a word that is not empty and does not begin with `-`
-abbrev pub is_plain : List ℕ → Bool
-is_plain [] = false
-is_plain (b ∷ bs) = not (eqb b 45)
+-- how often a command takes an option
+abbrev pub use_of : Command → Flag → Use
+use_of Write Handset = Never
+use_of Search Handset = AtMostOnce
 
--- each of the words is plain
-abbrev pub are_plain : List (String Global) → Bool
-are_plain [] = true
-are_plain (w ∷ ws) = is_plain (string_bytes w) && are_plain ws
+-- an option that is to be used so may stand `count` times
+abbrev pub allows : Use → ℕ → Bool
+allows Never count = eqb count 0
+allows AtMostOnce count = leb count 1
 
--- the command, where the words are legal: its name, then as many plain words as it takes files
+-- as many arguments under no option as the command takes files, and under each option as it takes it
+abbrev pub are_as_many : Command → List Argument → Bool
+are_as_many command list =
+    eqb (length (texts_under None list)) (count_of command)
+    && list_all (λ flag. allows (use_of command flag) (length (texts_under (Some flag) list))) flags
+
+-- the arguments are plain and as many as the command takes
+abbrev pub are_for : Command → List Argument → Bool
+are_for command list = are_plain list && are_as_many command list
+
+-- the command, where the words are legal: its name, then arguments for it
 abbrev pub legal : List (String Global) → Option Command
 legal [] = None
 legal (w ∷ ws) =
-    option_and_then (λ command. cond (are_plain ws && eqb (length ws) (count_of command)) (Some command) None) (command_of (string_bytes w))
+    option_and_then (λ command. cond (are_for command (arguments_after None ws)) (Some command) None) (command_of (string_bytes w))
 
 -- the words that name files
 abbrev pub files : List (String Global) → List (List ℕ)
-files [] = []
-files (w ∷ ws) = map string_bytes ws
+files words = texts_under None (arguments words)
 
 -- the k-th of them
 abbrev pub file : List (String Global) → ℕ → List ℕ
 file words k = get_or (files words) k []
 
--- the files that a run may ask for
+-- the value of `--handset`, where it stands
+abbrev pub handset : List (String Global) → Option (List ℕ)
+handset words = slice_get (texts_under (Some Handset) (arguments words)) 0
+
+-- the files that a run may ask for, which are none where the words are not legal
 abbrev pub named_by : Option Command → List (String Global) → List (List ℕ)
 named_by None words = []
 named_by (Some command) words = files words
 
+-- the files that a run on these words may ask for
 abbrev pub named : List (String Global) → List (List ℕ)
 named words = named_by (legal words) words

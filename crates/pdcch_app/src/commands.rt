@@ -1,43 +1,21 @@
 //! The commands, each step by step in the order of its work.
-ghost use Rattle.std.specs.Prelude.{◌≡◌, ◌∷◌, [], ℕ, List};
-ghost use Rattle.pdcch_app.specs.FirstCells.{IsFirst};
-ghost use Rattle.pdcch_app.specs.FirstGrid.{IsFirstGrid};
-ghost use Rattle.pdcch_app.specs.Outcome.{ended};
-ghost use Rattle.pdcch_app.specs.Outcomes.{write_of, written, search_of, searched};
-ghost use Rattle.pdcch_app.specs.Granted.{IsInRange};
-ghost use Rattle.pdcch_app.specs.Steps.{Work, Ends};
+ghost use Rattle.std.specs.Prelude.{◌≡◌, ◌∷◌, []};
+ghost use Rattle.run_steps.specs.Outcome.{ended};
+ghost use Rattle.run_steps.specs.Steps.{Work, Ends};
+ghost use Rattle.pdcch_app.specs.Outcomes.{write_of, search_of};
+ghost use Rattle.pdcch_app.specs.Reporting.{searched};
+ghost use Rattle.pdcch_app.specs.Words.{handset};
 
-use crate::answer::Answer;
-use crate::files::{grant_at, grid_at, input_order_at, reliability_at, settings_at};
-use crate::first_grant::FirstGrant;
-use crate::report_text::report_text;
-use crate::status::Status;
-use crate::stop::Stop;
-use crate::watch::{first_plan, first_watch};
-use crate::written::grid_of_grant;
-use dci_codec::hear;
-use grid_file::write_grid;
+use crate::files::{grants_at, grid_at, input_order_at, reliability_at, settings_at};
+use crate::searching::{report_all, report_named};
+use crate::words::handset;
+use crate::writing::write_text;
 use outside::Shelf;
 use rrc_settings::Cell;
+use run_steps::{Answer, Stop};
 use slot_grid::Grid;
 use std::alloc::Global;
 use table_files::Tables;
-
-/// The text of the cell's grid with the grant on it.
-fn write_text(
-    alloc: Global,
-    cell: &Cell,
-    tables: &Tables,
-    grant: &FirstGrant,
-) -> Result<Answer, Stop>
-    requires first { IsFirst cell.now }
-    requires range { IsInRange grant.now }
-    ensures { Ends result (ended (written cell.now tables.now grant.now)) }
-{
-    let grid = grid_of_grant(alloc, tables, cell, grant)?;
-    let text = write_grid(alloc, &grid)?;
-    Ok(Answer::new(Status::Done, text, Vec::new(alloc)))
-}
 
 /// Writes the grid of the grants in the cell of the settings, with the two tables.
 pub fn write<S: Shelf>(
@@ -52,36 +30,42 @@ pub fn write<S: Shelf>(
     requires reliability { S.may shelf.old reliability.now }
     requires input_order { S.may shelf.old input_order.now }
     requires grants { S.may shelf.old grants.now }
-    ensures { Work (write_of settings.now reliability.now input_order.now grants.now) (settings.now ∷ reliability.now ∷ input_order.now ∷ grants.now ∷ []) (S.told shelf.old) (S.faults shelf.old) (S.faults shelf.new) (S.longs shelf.old) (S.longs shelf.new) result }
+    ensures { Work (write_of settings.now reliability.now input_order.now grants.now) (settings.now ∷ reliability.now ∷ input_order.now ∷ grants.now ∷ []) (S.shows shelf.old) (S.shows shelf.new) result }
 {
     let cell = settings_at(alloc, shelf, settings)?;
     let reliability = reliability_at(alloc, shelf, reliability)?;
     let input_order = input_order_at(alloc, shelf, input_order)?;
-    let grant = grant_at(alloc, shelf, grants)?;
+    let list = grants_at(alloc, shelf, &cell, grants)?;
     let tables = Tables {
         reliability,
         input_order,
     };
-    write_text(alloc, &cell, &tables, &grant)
+    write_text(alloc, &cell, &tables, &list)
 }
 
-/// The report of what the handset hears on the grid.
-fn search_text(alloc: Global, cell: &Cell, tables: &Tables, grid: &Grid) -> Result<Answer, Stop>
-    requires first { IsFirst cell.now }
-    requires grid { IsFirstGrid grid.now }
-    ensures { Ends result (ended (searched cell.now tables.now grid.now)) }
+/// The report of the handset that the words name, or else of all.
+fn search_text(
+    alloc: Global,
+    words: &[String],
+    cell: &Cell,
+    tables: &Tables,
+    grid: &Grid,
+) -> Result<Answer, Stop>
+    requires mu { grid.now.mu ≡ cell.now.mu }
+    requires blocks { grid.now.blocks ≡ cell.now.blocks }
+    ensures { Ends result (ended (searched cell.now tables.now grid.now (handset words.now))) }
 {
-    let plan = first_plan(alloc, cell)?;
-    let watch = first_watch(&plan);
-    let heard = hear(tables, watch, 0, grid).ok();
-    let text = report_text(alloc, grid, watch, &heard)?;
-    Ok(Answer::new(Status::Done, text, Vec::new(alloc)))
+    match handset(words) {
+        None => report_all(alloc, cell, tables, grid),
+        Some(name) => report_named(alloc, cell, tables, grid, name),
+    }
 }
 
-/// Reports what the handset of the settings hears on a grid, with the two tables.
+/// Reports what the handsets of the settings hear on a grid, with the two tables: all, or the one that the words name.
 pub fn search<S: Shelf>(
     alloc: Global,
     shelf: &mut S,
+    words: &[String],
     settings: &str,
     reliability: &str,
     input_order: &str,
@@ -91,7 +75,7 @@ pub fn search<S: Shelf>(
     requires reliability { S.may shelf.old reliability.now }
     requires input_order { S.may shelf.old input_order.now }
     requires grid { S.may shelf.old grid.now }
-    ensures { Work (search_of settings.now reliability.now input_order.now grid.now) (settings.now ∷ reliability.now ∷ input_order.now ∷ grid.now ∷ []) (S.told shelf.old) (S.faults shelf.old) (S.faults shelf.new) (S.longs shelf.old) (S.longs shelf.new) result }
+    ensures { Work (search_of (handset words.now) settings.now reliability.now input_order.now grid.now) (settings.now ∷ reliability.now ∷ input_order.now ∷ grid.now ∷ []) (S.shows shelf.old) (S.shows shelf.new) result }
 {
     let cell = settings_at(alloc, shelf, settings)?;
     let reliability = reliability_at(alloc, shelf, reliability)?;
@@ -101,5 +85,5 @@ pub fn search<S: Shelf>(
         reliability,
         input_order,
     };
-    search_text(alloc, &cell, &tables, &points)
+    search_text(alloc, words, &cell, &tables, &points)
 }

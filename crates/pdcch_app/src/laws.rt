@@ -1,21 +1,16 @@
-//! What every run promises: laws over the definitions that the contract of `run` names, as the contracts of
-//! functions with nothing to do.
-ghost use Rattle.pdcch_app.specs.Promises.{EndsAsReadFault, EndsAsWriteFault, RefusesSilently, RefusesWords, WritesFirstCells, SearchesFirstCells};
-ghost use Rattle.pdcch_app.specs.Written.{PlansOneWatch};
+//! What a run of the program promises: laws over the definitions that the contract of `run` names, as the contracts of
+//! functions with nothing to do. Those of every run, whatever its commands, stand in `run_steps`.
+ghost use Rattle.pdcch_app.specs.Promises.{RefusesWords, WritesEveryList, SearchesEveryGrid};
+ghost use Rattle.pdcch_app.specs.Spelling.{LegalWordsAreSpelled, ReadsWhatIsSpelled};
 
-/// A fault of the shelf never ends as another refusal, and never as a job that was done.
-pub fn ends_as_read_fault()
-    ensures { EndsAsReadFault }
+/// Words are legal for a command exactly where they are its name and then its arguments, options at any place.
+pub fn legal_words_are_spelled()
+    ensures { LegalWordsAreSpelled }
 {}
 
-/// A fault of a sink never ends as anything else.
-pub fn ends_as_write_fault()
-    ensures { EndsAsWriteFault }
-{}
-
-/// Nothing stands on the output with a refusal.
-pub fn refuses_silently()
-    ensures { RefusesSilently }
+/// The arguments that a command is written with are those that are read.
+pub fn reads_what_is_spelled()
+    ensures { ReadsWhatIsSpelled }
 {}
 
 /// Words that are not legal are refused.
@@ -23,18 +18,13 @@ pub fn refuses_words()
     ensures { RefusesWords }
 {}
 
-/// Legal settings of a first cell, any two tables and first grants give the text of one grid.
-pub fn writes_first_cells()
-    ensures { WritesFirstCells }
+/// Every legal cell, any two tables and every legal list of grants give the text of one grid, and a line for each grant that
+/// is refused.
+pub fn writes_every_list()
+    ensures { WritesEveryList }
 {}
 
-/// Legal settings of a first cell, any two tables and a grid of these settings in frame 0 and slot 0 give the report of
-/// what it spells.
-pub fn searches_first_cells()
-    ensures { SearchesFirstCells }
-{}
-
-/// The plan of a first cell has one watch.
-pub fn plans_one_watch()
-    ensures { PlansOneWatch }
+/// Every legal cell, any two tables and every grid of the cell give the report of what the grid spells.
+pub fn searches_every_grid()
+    ensures { SearchesEveryGrid }
 {}

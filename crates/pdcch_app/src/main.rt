@@ -1,29 +1,22 @@
 //! Writes the downlink control region of one slot of a 5G NR carrier.
 #![tactic(auto)]
 
-mod answer;
+mod arguments;
 mod commands;
-mod fault_text;
 mod files;
-mod first_cell;
-mod first_grant;
 pub mod laws;
-mod report_text;
-mod status;
-mod stop;
-mod take;
-mod text;
+mod lines;
+mod searching;
 mod top;
-mod watch;
 mod words;
-mod written;
+mod writing;
 
-use outside::{FileShelf, StdSink, put_all};
-use status::Status;
+use outside::{FileShelf, StdSink};
+use run_steps::{Stop, finish};
 use std::env;
-use std::io::ErrorKind;
 use std::process::ExitCode;
-use top::run;
+use top::exit_status;
+use words::words_of;
 
 #[cfg(test)]
 mod tests;
@@ -32,18 +25,9 @@ fn main(rt: HostRuntime) -> ExitCode {
     let mut shelf = FileShelf::new(&rt);
     let mut out = StdSink::new(rt.stdout());
     let mut err = StdSink::new(rt.stderr());
-    let words = match env::args(&rt) {
-        Ok(words) => words.skip(1).collect::<Vec<String>>(rt.alloc()).ok(),
-        // A word that is no text makes the command line faulty, as no words at all do.
-        Err(error) if error.kind() == ErrorKind::InvalidData => Some(Vec::new(rt.alloc())),
-        Err(_) => None,
+    let code = match words_of(rt.alloc(), env::args(&rt)) {
+        Ok(words) => exit_status(&rt, rt.alloc(), &words, &mut shelf, &mut out, &mut err),
+        Err(_) => finish(Err(Stop::OutOfMemory), &mut out, &mut err).code(),
     };
-    let status = match words {
-        Some(words) => run(&rt, rt.alloc(), &words, &mut shelf, &mut out, &mut err),
-        None => match put_all(&mut err, b"error: memory\n") {
-            Ok(()) => Status::NoMemory,
-            Err(_) => Status::WriteFault,
-        },
-    };
-    ExitCode::from(status.code())
+    ExitCode::from(code)
 }

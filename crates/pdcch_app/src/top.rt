@@ -1,28 +1,38 @@
 //! The top call: one run of the program.
-ghost use Rattle.std.specs.Prelude.{◌≡◌, ℕ, List, All, map, string_bytes};
-ghost use Rattle.outside.specs.Causes.{Rose};
-ghost use Rattle.pdcch_app.specs.Outcome.{given_of};
-ghost use Rattle.pdcch_app.specs.Words.{named};
+ghost use Rattle.std.specs.Prelude.{◌≡◌, List, All};
+ghost use Rattle.pdcch_app.specs.Exits.{Exits};
+ghost use Rattle.pdcch_app.specs.Lines.{usage_line};
 ghost use Rattle.pdcch_app.specs.Outcomes.{outcome};
-ghost use Rattle.pdcch_app.specs.Steps.{Work};
-ghost use Rattle.pdcch_app.specs.Ran.{Ran, IsDelivered, AreTold, IsComplete};
+ghost use Rattle.pdcch_app.specs.Words.{named};
+ghost use Rattle.run_steps.specs.Outcome.{refused};
+ghost use Rattle.run_steps.specs.Ran.{Ran, Completes};
+ghost use Rattle.run_steps.specs.Steps.{IsStop, Work};
 
-use crate::answer::Answer;
 use crate::commands::{search, write};
-use crate::status::Status;
-use crate::stop::{Stop, refusal};
+use crate::lines::usage_line;
 use crate::words::{Command, file, legal};
-use outside::{Shelf, Sink, put_all};
+use outside::{Shelf, Sink};
+use run_steps::{Answer, Status, Stop, finish, refusal};
 use std::alloc::Global;
 use std::thread::Threads;
+
+/// That the words are not legal.
+fn usage(alloc: Global) -> Stop
+    ensures { IsStop (refused Status.Usage usage_line) result }
+{
+    match usage_line(alloc) {
+        Ok(line) => refusal(alloc, Status::Usage, line),
+        Err(_) => Stop::OutOfMemory,
+    }
+}
 
 /// The answer to the words, over what the fetches give.
 fn answer_of<S: Shelf>(alloc: Global, words: &[String], shelf: &mut S) -> Result<Answer, Stop>
     requires { All (S.may shelf.old) (named words.now) }
-    ensures { Work (outcome words.now) (named words.now) (S.told shelf.old) (S.faults shelf.old) (S.faults shelf.new) (S.longs shelf.old) (S.longs shelf.new) result }
+    ensures { Work (outcome words.now) (named words.now) (S.shows shelf.old) (S.shows shelf.new) result }
 {
     match legal(words) {
-        None => Err(refusal(alloc, Status::Usage, b"error: ", "usage")),
+        None => Err(usage(alloc)),
         Some(Command::Write) => write(
             alloc,
             shelf,
@@ -34,49 +44,12 @@ fn answer_of<S: Shelf>(alloc: Global, words: &[String], shelf: &mut S) -> Result
         Some(Command::Search) => search(
             alloc,
             shelf,
+            words,
             file(words, 0),
             file(words, 1),
             file(words, 2),
             file(words, 3),
         ),
-    }
-}
-
-/// Writes the text of the output, then that of the error output; the first fault ends it.
-fn deliver<K: Sink, L: Sink>(
-    status: Status,
-    out_text: &[u8],
-    err_text: &[u8],
-    out: &mut K,
-    err: &mut L,
-) -> Status
-    requires { status ≡ Status.WriteFault → ⊥ }
-    ensures { IsDelivered (record { status = status; out = out_text.now; err = err_text.now }) result (K.taken out.old) (K.taken out.new) (K.faults out.old) (K.faults out.new) (L.taken err.old) (L.taken err.new) (L.faults err.old) (L.faults err.new) }
-{
-    let Ok(()) = put_all(out, out_text) else {
-        return Status::WriteFault;
-    };
-    let Ok(()) = put_all(err, err_text) else {
-        return Status::WriteFault;
-    };
-    status
-}
-
-fn run_once<S: Shelf, K: Sink, L: Sink>(
-    alloc: Global,
-    words: &[String],
-    shelf: &mut S,
-    out: &mut K,
-    err: &mut L,
-) -> Status
-    requires { All (S.may shelf.old) (named words.now) }
-    ensures { Ran words.now (S.told shelf.old) (S.faults shelf.old) (S.faults shelf.new) (S.longs shelf.old) (S.longs shelf.new) result (K.taken out.old) (K.taken out.new) (K.faults out.old) (K.faults out.new) (L.taken err.old) (L.taken err.new) (L.faults err.old) (L.faults err.new) }
-{
-    match answer_of(alloc, words, shelf) {
-        Ok(answer) | Err(Stop::Ended(answer)) => {
-            deliver(answer.status(), answer.out(), answer.err(), out, err)
-        }
-        Err(Stop::OutOfMemory) => { deliver(Status::NoMemory, b"", b"error: memory\n", out, err) }
     }
 }
 
@@ -93,14 +66,25 @@ pub fn run<R: Threads + Sync, S: Shelf, K: Sink, L: Sink>(
     err: &mut L,
 ) -> Status
     requires { All (S.may shelf.old) (named words.now) }
-    ensures ran { Ran words.now (S.told shelf.old) (S.faults shelf.old) (S.faults shelf.new) (S.longs shelf.old) (S.longs shelf.new) result (K.taken out.old) (K.taken out.new) (K.faults out.old) (K.faults out.new) (L.taken err.old) (L.taken err.new) (L.faults err.old) (L.faults err.new) }
+    ensures ran { Ran (outcome words.now) (named words.now) (S.shows shelf.old) (S.shows shelf.new) result (K.shows out.old) (K.shows out.new) (L.shows err.old) (L.shows err.new) }
 
     // Where all named files are told and no count of faults rises, the run ends as the told bytes want it.
-    ensures complete { (bytes : List (List ℕ)) → AreTold (S.told shelf.old) (named words.now) bytes
-        → (Rose (S.faults shelf.old) (S.faults shelf.new) → ⊥)
-        → (Rose (K.faults out.old) (K.faults out.new) → ⊥)
-        → (Rose (L.faults err.old) (L.faults err.new) → ⊥)
-        → IsComplete (outcome words.now (map given_of bytes)) result (K.taken out.old) (K.taken out.new) (L.taken err.old) (L.taken err.new) }
+    ensures complete { Completes (outcome words.now) (named words.now) (S.shows shelf.old) (S.shows shelf.new) result (K.shows out.old) (K.shows out.new) (L.shows err.old) (L.shows err.new) }
 {
-    run_once(alloc, words, shelf, out, err)
+    finish(answer_of(alloc, words, shelf), out, err)
+}
+
+/// The exit status of one run of the program, which is that of its answer.
+pub fn exit_status<R: Threads + Sync, S: Shelf, K: Sink, L: Sink>(
+    rt: &R,
+    alloc: Global,
+    words: &[String],
+    shelf: &mut S,
+    out: &mut K,
+    err: &mut L,
+) -> u8
+    requires { All (S.may shelf.old) (named words.now) }
+    ensures { Exits words.now (S.shows shelf.old) (S.shows shelf.new) result (K.shows out.old) (K.shows out.new) (L.shows err.old) (L.shows err.new) }
+{
+    run(rt, alloc, words, shelf, out, err).code()
 }

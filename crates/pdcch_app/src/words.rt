@@ -1,6 +1,15 @@
 //! The words of the command line.
-ghost use Rattle.std.specs.Prelude.{◌≡◌, ◌<◌, ◌+◌, ℕ, List, length, IfSome};
-ghost use Rattle.pdcch_app.specs.Words.{legal, files, file, count_of, command_of, is_plain, are_plain};
+ghost use Rattle.std.specs.Prelude.{◌≡◌, ◌≢◌, ◌<◌, Some, None, [], length, drop, IfSome, IfOk, IfErr, MatchOption, MatchResult};
+ghost use Rattle.std.specs.Vec.Iter.{into_iter_items};
+ghost use Rattle.std.specs.IoError.{error_kind};
+ghost use Rattle.std.specs.declared.io.ErrorKind.TheVariants.{InvalidData};
+ghost use Rattle.pdcch_app.specs.Words.{legal, files, file, handset, count_of, command_of, use_of, allows};
+
+use crate::arguments::{Flag, are_plain, count_under, text_under};
+use std::alloc::{AllocError, Global};
+use std::env::Args;
+use std::io;
+use std::io::ErrorKind;
 
 /// What a run is asked to do.
 #[derive(Clone, Copy, Debug, PartialEq, Eq)]
@@ -11,6 +20,13 @@ pub enum Command {
     Search,
 }
 
+/// How often a command takes an option.
+#[derive(Clone, Copy)]
+enum Use {
+    Never,
+    AtMostOnce,
+}
+
 impl Command {
     /// How many files the command takes.
     pub fn count(&self) -> usize
@@ -19,6 +35,28 @@ impl Command {
         match self {
             Command::Write => 4,
             Command::Search => 4,
+        }
+    }
+
+    /// How often it takes an option.
+    fn use_of(&self, flag: Flag) -> Use
+        ensures { result ≡ use_of self.now flag }
+    {
+        match (self, flag) {
+            (Command::Write, Flag::Handset) => Use::Never,
+            (Command::Search, Flag::Handset) => Use::AtMostOnce,
+        }
+    }
+}
+
+impl Use {
+    /// Whether an option may stand `count` times.
+    fn allows(&self, count: usize) -> bool
+        ensures { result ≡ allows self.now count }
+    {
+        match self {
+            Use::Never => count == 0,
+            Use::AtMostOnce => count <= 1,
         }
     }
 }
@@ -35,27 +73,7 @@ fn command_of(word: &[u8]) -> Option<Command>
     }
 }
 
-fn is_plain(word: &[u8]) -> bool
-    ensures { result ≡ is_plain word.now }
-{
-    match word {
-        [] => false,
-        [first, ..] => *first != b'-',
-    }
-}
-
-fn are_plain(words: &[String]) -> bool
-    ensures { result ≡ are_plain words.now }
-{
-    for word in words {
-        if !is_plain(word.as_bytes()) {
-            return false;
-        }
-    }
-    true
-}
-
-/// The command, where the words are legal: its name, then as many plain words as it takes files.
+/// The command, where the words are legal: its name, then arguments for it.
 pub fn legal(words: &[String]) -> Option<Command>
     ensures command { result ≡ legal words.now }
     ensures files { IfSome result (λ command. length (files words.now) ≡ count_of command) }
@@ -64,7 +82,11 @@ pub fn legal(words: &[String]) -> Option<Command>
         return None;
     };
     let command = command_of(first.as_bytes())?;
-    if are_plain(rest) && rest.len() == command.count() {
+    let handset = command.use_of(Flag::Handset);
+    if are_plain(rest)
+        && count_under(None, rest) == command.count()
+        && handset.allows(count_under(Some(Flag::Handset), rest))
+    {
         Some(command)
     } else {
         None
@@ -76,5 +98,43 @@ pub fn file(words: &[String], place: usize) -> &str
     requires { place < length (files words.now) }
     ensures { result.now ≡ file words.now place }
 {
-    words[place + 1].as_str()
+    let [_, rest @ ..] = words else {
+        unreachable!();
+    };
+    match text_under(None, rest, place) {
+        Some(word) => word,
+        None => unreachable!(),
+    }
+}
+
+/// The value of `--handset`, where it stands.
+pub fn handset(words: &[String]) -> Option<&str>
+    ensures { MatchOption result (handset words.now ≡ None) (λ word. handset words.now ≡ Some word.now) }
+{
+    let [_, rest @ ..] = words else {
+        return None;
+    };
+    text_under(Some(Flag::Handset), rest, 0)
+}
+
+/// All that the system gives but the first, which is the program's name.
+fn words_after_first(alloc: Global, all: Args) -> Result<Vec<String>, AllocError>
+    ensures { IfOk result (λ words. words.items ≡ drop 1 (into_iter_items all)) }
+{
+    all.skip(1).collect(alloc)
+}
+
+/// The words of a run, of what the system gives: all after the program's name, and none where one of them is no text,
+/// since a run on no words is refused as a faulty command line.
+pub fn words_of(alloc: Global, given: io::Result<Args>) -> Result<Vec<String>, AllocError>
+    ensures texts { IfOk given (λ all. IfOk result (λ words. words.items ≡ drop 1 (into_iter_items all))) }
+    ensures no_text { IfErr given (λ error. MatchResult result (λ words. (words.items ≡ []) × (error_kind error ≡ InvalidData)) (λ _. error_kind error ≢ InvalidData)) }
+{
+    match given {
+        Ok(all) => words_after_first(alloc, all),
+        Err(error) => match error.kind() {
+            ErrorKind::InvalidData => Ok(Vec::new(alloc)),
+            _ => Err(AllocError),
+        },
+    }
 }

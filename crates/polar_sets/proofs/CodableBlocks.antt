@@ -1,4 +1,5 @@
--- The blocks of payloads can be coded at each aggregation level: 47 to 108 bits that are sent in 108, 216, 432, 864 or 1728 have enough free positions.
+-- The blocks of payloads can be coded at each aggregation level: 36 to 152 bits that are sent in 108, 216, 432, 864 or 1728, where they are no more than that, have
+-- enough free positions.
 use Rattle.std.proofs.Common.{◌≡◌, ℕ, zero, suc, ◌+◌, ◌-◌, ◌*◌, ◌^◌, ◌<◌, ◌≤◌, Bool, true, false, min, max, nat_lt, nat_le, inl, inr, get_or, refl, ap, sym, subst, arith, lit≤, lit<}
 use Rattle.std.specs.Prelude.{◌==◌, if◌then◌else◌}
 use Rattle.std.specs.List.{range_with_len, list_all}
@@ -91,14 +92,14 @@ repeated n k e h =
     omega (arith, count)
 
 -- the word of such a block has as many bits as its sent bits alone ask for, at most 512
-power-past : (x : ℕ) → 376 ≤ x → (c : ℕ) → c < 9 → 2 ^ c < x
+power-past : (x : ℕ) → 288 ≤ x → (c : ℕ) → c < 9 → 2 ^ c < x
 power-past x h c l =
     let m : c ≤ 8 = omega (arith, l) in
     let p : 2 ^ c ≤ 2 ^ 8 = pow-le-pow_right (lit< tt) m in
     omega (arith, p, h)
 
-nine : (x : ℕ) → 376 ≤ x → x ≤ 864 → 9 ≤ least_power x
-nine x h l =
+nine-near : (x : ℕ) → 288 ≤ x → x ≤ 1024 → 9 ≤ least_power x
+nine-near x h l =
     elim (cases_lt 512 x) [
       | inl over ↦
           (let e : 10 ≡ least_power x = least_power-is x 10 (record {
@@ -111,7 +112,19 @@ nine x h l =
           omega (arith, e))
     ]
 
-word_len : (k e b : ℕ) → 47 ≤ k → k ≤ 108 → exponent_of k e (least_power e) ≡ b → length_of k e ≡ 2 ^ max (min b 9) 5
+nine : (x : ℕ) → 288 ≤ x → x ≤ 1216 → 9 ≤ least_power x
+nine x h l =
+    elim (cases_lt 1024 x) [
+      | inl far ↦
+          (let e : 11 ≡ least_power x = least_power-is x 11 (record {
+            reaches = omega (arith, l);
+            least = λ c m. let n : c ≤ 10 = omega (arith, m) in let p : 2 ^ c ≤ 2 ^ 10 = pow-le-pow_right (lit< tt) n in omega (arith, p, far);
+          }) in
+          omega (arith, e))
+      | inr near ↦ nine-near x h near
+    ]
+
+word_len : (k e b : ℕ) → 36 ≤ k → k ≤ 152 → exponent_of k e (least_power e) ≡ b → length_of k e ≡ 2 ^ max (min b 9) 5
 unfolding length_of
 word_len k e b h l is =
     let nine_on = nine (8 * k) (omega (arith, h)) (omega (arith, l)) in
@@ -123,23 +136,23 @@ enough_from n k e is sent free =
     let P : ℕ → Type 0 = λ m. k ≤ count_below m (is_free m k e) in
     record { sent = sent; free = subst P (sym is) free }
 
-word_108 : (k : ℕ) → 47 ≤ k → k ≤ 108 → length_of k 108 ≡ 128
+word_108 : (k : ℕ) → 36 ≤ k → k ≤ 152 → length_of k 108 ≡ 128
 unfolding powers_below
 word_108 k h l = word_len k 108 7 h l refl
 
-word_216 : (k : ℕ) → 47 ≤ k → k ≤ 108 → length_of k 216 ≡ 256
+word_216 : (k : ℕ) → 36 ≤ k → k ≤ 152 → length_of k 216 ≡ 256
 unfolding powers_below
 word_216 k h l = word_len k 216 8 h l refl
 
-word_432 : (k : ℕ) → 47 ≤ k → k ≤ 108 → length_of k 432 ≡ 512
+word_432 : (k : ℕ) → 36 ≤ k → k ≤ 152 → length_of k 432 ≡ 512
 unfolding powers_below
 word_432 k h l = word_len k 432 9 h l refl
 
-word_864 : (k : ℕ) → 47 ≤ k → k ≤ 108 → length_of k 864 ≡ 512
+word_864 : (k : ℕ) → 36 ≤ k → k ≤ 152 → length_of k 864 ≡ 512
 unfolding powers_below
 word_864 k h l = word_len k 864 10 h l refl
 
-word_1728 : (k : ℕ) → 47 ≤ k → k ≤ 108 → length_of k 1728 ≡ 512
+word_1728 : (k : ℕ) → 36 ≤ k → k ≤ 152 → length_of k 1728 ≡ 512
 unfolding powers_below
 word_1728 k h l = word_len k 1728 11 h l refl
 
@@ -164,15 +177,15 @@ out_first_512 : list_all (λ m. nat_lt (position_at 512 m) 168) (range_with_len 
 unfolding position_at
 out_first_512 = refl
 
-pub enough_108 : (k : ℕ) → 47 ≤ k → k ≤ 108 → Enough k 108
+pub enough_108 : (k : ℕ) → 36 ≤ k → k ≤ 108 → Enough k 108
 enough_108 k h l =
-    enough_from 128 k 108 (word_108 k h l) l
+    enough_from 128 k 108 (word_108 k h (omega (arith, l))) l
     (elim (cases_lt 756 (16 * k)) [
       | inl over ↦ (let c = shortened 128 k 108 (lit< tt) over out_last_128 in omega (arith, c, l))
       | inr within ↦ (let c = punctured 128 k 108 42 (lit< tt) within refl out_first_128 in omega (arith, c, within))
     ])
 
-pub enough_216 : (k : ℕ) → 47 ≤ k → k ≤ 108 → Enough k 216
+pub enough_216 : (k : ℕ) → 36 ≤ k → k ≤ 152 → Enough k 216
 enough_216 k h l =
     enough_from 256 k 216 (word_216 k h l) (omega (arith, l))
     (elim (cases_lt 1512 (16 * k)) [
@@ -180,15 +193,15 @@ enough_216 k h l =
       | inr within ↦ (let c = punctured 256 k 216 84 (lit< tt) within refl out_first_256 in omega (arith, c, l))
     ])
 
-pub enough_432 : (k : ℕ) → 47 ≤ k → k ≤ 108 → Enough k 432
+pub enough_432 : (k : ℕ) → 36 ≤ k → k ≤ 152 → Enough k 432
 enough_432 k h l =
     enough_from 512 k 432 (word_432 k h l) (omega (arith, l))
     (let c = punctured 512 k 432 168 (lit< tt) (omega (arith, l)) refl out_first_512 in omega (arith, c, l))
 
-pub enough_864 : (k : ℕ) → 47 ≤ k → k ≤ 108 → Enough k 864
+pub enough_864 : (k : ℕ) → 36 ≤ k → k ≤ 152 → Enough k 864
 enough_864 k h l =
     enough_from 512 k 864 (word_864 k h l) (omega (arith, l)) (let c = repeated 512 k 864 (lit≤ tt) in omega (arith, c, l))
 
-pub enough_1728 : (k : ℕ) → 47 ≤ k → k ≤ 108 → Enough k 1728
+pub enough_1728 : (k : ℕ) → 36 ≤ k → k ≤ 152 → Enough k 1728
 enough_1728 k h l =
     enough_from 512 k 1728 (word_1728 k h l) (omega (arith, l)) (let c = repeated 512 k 1728 (lit≤ tt) in omega (arith, c, l))

@@ -7,7 +7,7 @@ use Rattle.std.proofs.lemmas.List.FromFn.{get_or-map-range_with_len, length-map-
 use Rattle.slot_grid.specs.declared.places.Point.{Point}
 use Rattle.slot_grid.specs.declared.places.Point.TheVariants.{Empty}
 use Rattle.slot_grid.specs.Grid.{GridValue, point_at}
-use Rattle.slot_grid.specs.Image.{Image, overwritten, Agrees, AreApart, IsWithin}
+use Rattle.slot_grid.specs.Image.{Image, overwritten, Agrees, AreCompatible, IsWithin}
 
 -- the point that an overwritten grid has at place i of its list
 abbrev point_there : Image → GridValue → ℕ → Point
@@ -69,13 +69,13 @@ pub agrees-overwritten : (image : Image) (grid : GridValue) → IsWithin grid im
 agrees-overwritten image grid within s c p e =
     point_at-overwritten image grid s c (within s c p e).0 (within s c p e).1 ∙ ap (λ o. unwrap_or o (point_at grid s c)) e
 
-none_there : (o : Option Point) → ((q : Point) → o ≡ Some q → ⊥) → o ≡ None
-none_there None h = refl
-none_there (Some q) h = absurd (h q refl)
+-- a place that another image writes over, or leaves
+written_over : (written : Option Point) (old p : Point) → old ≡ p → ((q : Point) → written ≡ Some q → p ≡ q) → unwrap_or written old ≡ p
+written_over None old p e same = e
+written_over (Some q) old p e same = sym (same q refl)
 
--- what is apart from the image stays
-pub agrees-after : (a b : Image) (grid : GridValue) → IsWithin grid a → AreApart a b → Agrees grid a → Agrees (overwritten b grid) a
-agrees-after a b grid within apart agrees s c p e =
+-- what agrees with an image agrees with it after another one was written that is like it wherever both have a point
+pub agrees-after : (a b : Image) (grid : GridValue) → IsWithin grid a → AreCompatible a b → Agrees grid a → Agrees (overwritten b grid) a
+agrees-after a b grid within alike agrees s c p e =
     point_at-overwritten b grid s c (within s c p e).0 (within s c p e).1
-    ∙ ap (λ o. unwrap_or o (point_at grid s c)) (none_there (b s c) (λ q f. apart s c p q e f))
-    ∙ agrees s c p e
+    ∙ written_over (b s c) (point_at grid s c) p (agrees s c p e) (λ q f. alike s c p q e f)

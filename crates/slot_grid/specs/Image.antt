@@ -35,9 +35,9 @@ overwritten image grid = record {
 abbrev pub Agrees : GridValue → Image → Type 0
 Agrees grid image = (s c : ℕ) (p : Point) → image s c ≡ Some p → point_at grid s c ≡ p
 
--- no place is in both images
-abbrev pub AreApart : Image → Image → Type 0
-AreApart a b = (s c : ℕ) (p q : Point) → a s c ≡ Some p → b s c ≡ Some q → ⊥
+-- two images have the same point at each place that both have
+abbrev pub AreCompatible : Image → Image → Type 0
+AreCompatible a b = (s c : ℕ) (p q : Point) → a s c ≡ Some p → b s c ≡ Some q → p ≡ q
 
 -- each place of the image is one of the grid
 abbrev pub IsWithin : GridValue → Image → Type 0

@@ -2,4 +2,4 @@ use Rattle.dci_codec.proofs.Readings.{fields-of}
 use Rattle.dci_codec.proofs.hearing.fields_in.Goals as goal
 
 pub returns : goal.returns
-returns c = fields-of c.args.watch.now c.args.format c.list_at.result c.args.payload.now c.unpack.result c.list_at.ensures c.unpack.ensures
+returns c = fields-of c.args.watch.now c.args.format c.list.result c.args.payload.now c.unpack.result c.list.ensures c.unpack.ensures

@@ -9,7 +9,7 @@ returns-in-Err c = (c.in-Err.ensures.bad c.in-Err.bad).0 refl
 
 pub decode-requires : goal.decode-requires
 decode-requires c =
-    all_received c.args.tables.now c.args.watch.now c.code_at-code.result c.scramble-bits.result c.in-Ok.bits c.requires.sound
+    all_received c.args.tables.now c.args.watch.now c.code_at-code.result c.scramble-bits.result c.in-Ok.bits c.requires.carrying
     c.code_at-code.ensures.tables c.scramble-bits.ensures c.in-Ok.ensures.length
 
 pub returns-in-Some : goal.returns-in-Some

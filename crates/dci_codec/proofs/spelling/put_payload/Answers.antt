@@ -4,7 +4,7 @@ use Rattle.dci_codec.proofs.spelling.put_payload.Goals as goal
 
 pub put_bits-requires-clause-bits : goal.put_bits-requires-clause-bits
 put_bits-requires-clause-bits c =
-    bits_fit c.args.tables.now c.args.watch.now c.code_at-code.result c.encode.result c.scramble-bits.result c.requires.sound
+    bits_fit c.args.tables.now c.args.watch.now c.code_at-code.result c.encode.result c.scramble-bits.result c.requires.carrying
     c.code_at-code.ensures.tables c.encode.ensures.len c.scramble-bits.ensures
 
 pub returns-clause-written : goal.returns-clause-written

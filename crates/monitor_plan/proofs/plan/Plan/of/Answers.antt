@@ -1,4 +1,4 @@
-use Rattle.std.proofs.Common.{ℕ, List, ap, ◌∙◌}
+use Rattle.std.proofs.Common.{ℕ, List, ap, ◌∙◌, arith}
 use Rattle.rrc_settings.specs.HandsetsOfCell.{handset_at}
 use Rattle.monitor_plan.specs.Planned.{planned}
 use Rattle.monitor_plan.specs.Watches.{watches_of}
@@ -10,7 +10,8 @@ made : (c : goal.In-Ok-watches_of) → IsMade c.args.cell.now c.args.handset c.a
 made c =
     plan-made c.args.cell.now c.args.handset c.args.frame c.args.slot c.sizes-sizes.result c.in-Ok.allotment c.in-Ok-watches_of.watches.items
     c.raw-settings.ensures.legal c.requires.handset c.sizes-sizes.ensures c.in-Ok.ensures.allotted
-    (c.in-Ok-watches_of.ensures ∙ ap (λ (xs : List ℕ). watches_of c.args.cell.now (handset_at c.args.cell.now c.args.handset) c.sizes-sizes.result xs) c.as_slice.ensures.value)
+    (c.in-Ok-watches_of.ensures.watches ∙ ap (λ (xs : List ℕ). watches_of c.args.cell.now (handset_at c.args.cell.now c.args.handset) c.sizes-sizes.result xs) c.as_slice.ensures.value)
+    (omega (arith, c.in-Ok-watches_of.ensures.few, c.as_slice.ensures.fits))
 
 pub invariant_of-result : goal.invariant_of-result
 invariant_of-result c = (made c).plan

@@ -1,0 +1,6 @@
+use Rattle.std.proofs.Common.{vec_capacity}
+use Rattle.blind_search.proofs.SoFar.{IsHeardBelow}
+use Rattle.blind_search.proofs.searcher.push_heard.Given as goal
+
+abbrev pub invariant-loop-number : goal.invariant-loop-number
+invariant-loop-number l = IsHeardBelow l.tables l.grid l.watches l.number (vec_capacity l.initial.heard) l.heard

@@ -1,0 +1,12 @@
+pub mod Calls
+pub mod OwnerTables
+pub mod Entries
+pub mod SuitableWatches
+pub mod Decisions
+pub mod LegalCells
+pub mod Openings
+pub mod Faultless
+pub mod Histories
+pub mod Heard
+pub mod Earliest
+pub mod FieldChecks

@@ -1,0 +1,13 @@
+pub mod Ledger
+pub mod Suitable
+pub mod Owners
+pub mod View
+pub mod Fate
+pub mod Ready
+pub mod Placing
+pub mod Opened
+pub mod OpeningFaults
+pub mod Made
+pub mod Earliest
+pub mod Written
+pub mod Equality

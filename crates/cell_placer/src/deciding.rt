@@ -1,0 +1,119 @@
+//! What is decided of a grant.
+ghost use Rattle.std.specs.Prelude.{◌≡◌, ◌&&◌, ◌<◌, All, IfOk, length, position, Some, true};
+ghost use Rattle.dci_fields.specs.FirstFieldFault.{field_fault};
+ghost use Rattle.monitor_plan.specs.Watch.{fits, list_of, IsInside, IsSound};
+ghost use Rattle.cell_placer.specs.Ready.{IsReady};
+ghost use Rattle.cell_placer.specs.Suitable.{is_suitable};
+ghost use Rattle.cell_placer.specs.Fate.{by_fault, by_free, by_room, by_handset, decided, is_free};
+
+use crate::Refusal;
+use crate::ledger::Ledger;
+use crate::member::Accepted;
+use crate::suitable::{first_suitable, handset_of, is_suitable};
+use dci_fields::{FieldFault, pack};
+use grant_file::Grant;
+use monitor_plan::Watch;
+
+/// How a grant is accepted, or the first cause against it.
+#[tactic(auto, unfolding(crate::specs::Fate::decided))]
+pub(crate) fn decided(ledger: &Ledger, grant: &Grant) -> Result<Accepted, Refusal>
+    ensures value { result ≡ decided ledger.now grant.now }
+    ensures ready { IfOk result (λ entry. IsReady ledger.now grant.now entry) }
+{
+    match handset_of(ledger.members(), &grant.handset) {
+        None => Err(Refusal::UnknownHandset),
+        Some(handset) => decided_in(ledger, grant, handset),
+    }
+}
+
+/// The same where the grant is of the handset at this place.
+fn decided_in(ledger: &Ledger, grant: &Grant, handset: usize) -> Result<Accepted, Refusal>
+    requires { handset < length ledger.now.members }
+    ensures { result ≡ by_handset ledger.now grant.now (Some handset) }
+{
+    let member = &ledger.members()[handset];
+    if !member.sets.as_slice().contains(&grant.set) {
+        return Err(Refusal::UnknownSet);
+    }
+    let watches = member.plan.watches();
+    match first_suitable(watches, grant) {
+        None => Err(Refusal::Unmonitored),
+        Some(first) => decided_among(ledger, grant, handset, watches, &watches[first]),
+    }
+}
+
+/// The same by the watches of the handset and the first suitable one.
+fn decided_among(
+    ledger: &Ledger,
+    grant: &Grant,
+    handset: usize,
+    watches: &[Watch],
+    first: &Watch,
+) -> Result<Accepted, Refusal>
+    requires all_inside { All (IsInside ledger.now.blocks) watches.now }
+    requires sound { IsSound first.now }
+    requires inside { IsInside ledger.now.blocks first.now }
+    requires fitting { fits first.now grant.now.format ≡ true }
+    ensures { result ≡ by_fault ledger.now grant.now handset watches.now first.now (field_fault (list_of first.now grant.now.format) grant.now.format grant.now.given) }
+{
+    if let Some(fault) = fault_of(first, grant) {
+        return Err(Refusal::Field(fault));
+    }
+    match first_free(ledger, watches, grant) {
+        None => Err(Refusal::Overlap {
+            earlier: ledger.first_meeting(first).unwrap_or(0),
+        }),
+        Some(watch) => decided_at(ledger, handset, watch),
+    }
+}
+
+/// The same at a free watch of the handset.
+fn decided_at(ledger: &Ledger, handset: usize, watch: usize) -> Result<Accepted, Refusal>
+    ensures { result ≡ by_room ledger.now handset watch }
+{
+    if !ledger.has_room() {
+        return Err(Refusal::Full {
+            room: ledger.room(),
+        });
+    }
+    Ok(Accepted {
+        call: ledger.calls(),
+        handset,
+        watch,
+    })
+}
+
+/// What is wrong with the grant's field values at a watch.
+fn fault_of(watch: &Watch, grant: &Grant) -> Option<FieldFault>
+    requires sound { IsSound watch.now }
+    requires fitting { fits watch.now grant.now.format ≡ true }
+    ensures { result ≡ field_fault (list_of watch.now grant.now.format) grant.now.format grant.now.given }
+{
+    let list = watch.list(grant.format);
+    let size = usize::from(watch.size);
+    match pack(&list, grant.format, grant.given.as_slice(), size) {
+        Ok(_payload) => None,
+        Err(fault) => Some(fault),
+    }
+}
+
+/// The place of the first suitable watch that is free.
+fn first_free(ledger: &Ledger, watches: &[Watch], grant: &Grant) -> Option<usize>
+    requires { All (IsInside ledger.now.blocks) watches.now }
+    ensures { result ≡ position (λ w. is_suitable grant.now w && is_free ledger.now w) watches.now }
+{
+    for (at, watch) in watches.iter().enumerate() {
+        if is_open(ledger, watch, grant) {
+            return Some(at);
+        }
+    }
+    None
+}
+
+/// Whether the watch is suitable and free.
+fn is_open(ledger: &Ledger, watch: &Watch, grant: &Grant) -> bool
+    requires { IsInside ledger.now.blocks watch.now }
+    ensures { result ≡ (is_suitable grant.now watch.now && is_free ledger.now watch.now) }
+{
+    is_suitable(grant, watch) && ledger.first_meeting(watch).is_none()
+}

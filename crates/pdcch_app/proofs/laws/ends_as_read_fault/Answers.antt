@@ -1,5 +1,0 @@
-use Rattle.pdcch_app.proofs.RunPromises.{ends_as_read_fault}
-use Rattle.pdcch_app.proofs.laws.ends_as_read_fault.Goals as goal
-
-pub returns : goal.returns
-returns c = ends_as_read_fault

@@ -1,9 +1,0 @@
-use Rattle.std.proofs.Common.{◌≡◌, ◌++◌, take}
-use Rattle.std.specs.List.{flat_map}
-use Rattle.pdcch_app.specs.Report.{field_text}
-use Rattle.pdcch_app.proofs.report_text.push_fields.Given as goal
-
--- the texts of the fields so far follow the text
-abbrev pub invariant-loop-field : goal.invariant-loop-field
-invariant-loop-field l =
-    l.text.items ≡ l.initial.text.items ++ flat_map field_text (take l.field-index l.initial.fields)

@@ -1,8 +1,0 @@
-use Rattle.pdcch_app.proofs.Taking.{took-bytes, took-none}
-use Rattle.pdcch_app.proofs.take.take.Goals as goal
-
-pub returns-in-Ok-clause-step : goal.returns-in-Ok-clause-step
-returns-in-Ok-clause-step g c = rw c.from_vec.ensures (took-bytes _ _ _ _ _ _ _ c.in-Ok.ensures.fetched)
-
-pub returns-clause-step : goal.returns-clause-step
-returns-clause-step g c = took-none _ _ _ _ _ _ _ (rw c.in-Err-NoMemory.field-0-is at c.in-Err-NoMemory.ensures.fetched)

@@ -1,0 +1,14 @@
+-- What is skipped and collected of the words of a vector is their list without the first.
+use Rattle.std.proofs.Common.{◌∙◌, ap}
+use Rattle.std.specs.Vec.Iter.{into_iter_items, into_iter_len}
+use Rattle.std.specs.Iterator.Adapters.{skip_source}
+use Rattle.std.proofs.lemmas.Iterator.{items_from_collect}
+use Rattle.std.proofs.lemmas.Iterator.Adapters.{YieldsList-from_vec, YieldsList-from_skip}
+use Rattle.pdcch_app.proofs.words.words_after_first.Goals as goal
+
+pub returns : goal.returns
+returns c =
+    items_from_collect c.collect.result c.collect.ensures.ran
+    (YieldsList-from_skip 1
+    (YieldsList-from_vec {s = skip_source c.skip.result} (into_iter_items c.args.all) (ap into_iter_items c.skip.ensures.source) (ap into_iter_len c.skip.ensures.source ∙ c.args.all.rest.ok.0))
+    c.skip.ensures.count)

@@ -1,0 +1,2 @@
+pub mod NamedFields
+pub mod RefusedGrants

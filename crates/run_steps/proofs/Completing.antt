@@ -1,0 +1,31 @@
+-- A run whose files are told and that met no fault ends as the told bytes want it.
+use Rattle.std.proofs.Common.{◌≡◌, inl, inr, ⊎_elim, ℕ, List, [], ◌∷◌, map, refl, ap, ◌∙◌, subst}
+use Rattle.outside.specs.Causes.{Rose}
+use Rattle.outside.specs.Views.{ShelfView, SinkView}
+use Rattle.run_steps.specs.declared.statuses.Status.{Status}
+use Rattle.run_steps.specs.declared.statuses.Status.TheVariants.{WriteFault}
+use Rattle.run_steps.specs.Outcome.{Outcome, Fetched, Fault, given_of, no_memory}
+use Rattle.run_steps.specs.Steps.{AreGiven}
+use Rattle.run_steps.specs.Ran.{Ran, IsDelivered, AreTold, EndsWhole, Completes}
+
+gave-told : (old new : ShelfView) (names : List (List ℕ)) (gave : List Fetched) (bytes : List (List ℕ)) → AreGiven old new names gave → AreTold old names bytes → (Rose old.faults new.faults → ⊥) → gave ≡ map given_of bytes
+gave-told old new [] [] [] given are none = refl
+gave-told old new [] [] (b ∷ bs) given are none = absurd are
+gave-told old new [] (x ∷ xs) bytes given are none = absurd given
+gave-told old new (n ∷ ns) [] bytes given are none = absurd given
+gave-told old new (n ∷ ns) (x ∷ xs) [] given are none = absurd are
+gave-told old new (n ∷ ns) (x ∷ xs) (b ∷ bs) given are none =
+    let one : x ≡ given_of b = ⊎_elim (λ e. e) (λ (e : x ≡ Fault). absurd (none (given.0.faulted e))) (given.0.agrees b are.0) in
+    let rest : xs ≡ map given_of bs = gave-told old new ns xs bs given.1 are.1 none in
+    cc
+
+whole-from : {answer : Outcome} {result : Status} {oo on eo en : SinkView} → IsDelivered answer result oo on eo en → (Rose oo.faults on.faults → ⊥) → (Rose eo.faults en.faults → ⊥) → EndsWhole answer result oo on eo en
+whole-from {answer} {result} {oo} {on} {eo} {en} d none_out none_err =
+    let unlike : result ≡ WriteFault → ⊥ = λ e. ⊎_elim none_out none_err (d.faulted e) in
+    (⊎_elim (λ e. e) (λ (e : result ≡ WriteFault). absurd (unlike e)) d.status, d.out_whole unlike, d.err_whole unlike)
+
+pub complete-from : {outcome : List Fetched → Outcome} {names : List (List ℕ)} {old new : ShelfView} {result : Status} {oo on eo en : SinkView} → Ran outcome names old new result oo on eo en → Completes outcome names old new result oo on eo en
+complete-from {outcome} {names} {old} {new} {result} {oo} {on} {eo} {en} r = λ bytes are none none_out none_err.
+    let whole = whole-from r.delivered none_out none_err in
+    let same : r.gave ≡ map given_of bytes = gave-told old new names r.gave bytes r.given are none in
+    ⊎_elim (λ (e : r.answer ≡ outcome r.gave). inl (subst (λ (o : Outcome). EndsWhole o result oo on eo en) (e ∙ ap outcome same) whole)) (λ (e : r.answer ≡ no_memory). inr (subst (λ (o : Outcome). EndsWhole o result oo on eo en) e whole)) r.is

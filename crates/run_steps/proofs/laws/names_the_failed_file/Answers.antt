@@ -1,0 +1,5 @@
+use Rattle.run_steps.proofs.RunPromises.{names_the_failed_file}
+use Rattle.run_steps.proofs.laws.names_the_failed_file.Goals as goal
+
+pub returns : goal.returns
+returns c = names_the_failed_file
