@@ -9,3 +9,8 @@ pub pair-is : (start m : ℕ) (g h : GoldValue) (first second : Bool) → first 
 pair-is start m g h first second a b c d e f =
     ap (λ x. point_of x second) (a ∙ ap (λ s. gold s g.at) c ∙ ap (gold start) d)
     ∙ ap (point_of (gold start (2 * m))) (b ∙ ap (λ s. gold s h.at) e ∙ ap (gold start) f)
+
+-- the point of bit 2m and the next of a sequence is reference point m
+pub point-from : (start wanted bit m : ℕ) → start ≡ wanted → bit ≡ 2 * m → point_of (gold start bit) (gold start (bit + 1)) ≡ sequence_point wanted m
+point-from start wanted bit m e f =
+    ap (λ s. point_of (gold s bit) (gold s (bit + 1))) e ∙ ap (λ n. point_of (gold wanted n) (gold wanted (n + 1))) f

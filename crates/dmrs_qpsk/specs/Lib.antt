@@ -5,3 +5,4 @@ pub mod Placed
 pub mod Held
 pub mod Taken
 pub mod PointLaws
+pub mod Sequences

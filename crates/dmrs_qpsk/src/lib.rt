@@ -4,6 +4,7 @@
 pub mod laws;
 mod placing;
 mod reference;
+mod sequences;
 mod taking;
 
 pub use placing::put_bits;

@@ -36,7 +36,7 @@ pub fn reference_point(slot: u16, symbol: u8, id: u16, block: u16, k: u8) -> Poi
 }
 
 /// The start value of the sequence of reference points in one symbol.
-fn sequence_start(slot: u16, symbol: u8, id: u16) -> u32
+pub(crate) fn sequence_start(slot: u16, symbol: u8, id: u16) -> u32
     requires slot { slot < 80 }
     requires symbol { symbol < 14 }
     ensures value { result ≡ reference_start slot symbol id }

@@ -9,7 +9,7 @@ ghost use Rattle.dmrs_qpsk.specs.PointsOnGrid.{AreInside};
 ghost use Rattle.dmrs_qpsk.specs.Held.{Holds, IsFlawed, IsFirstBad};
 ghost use Rattle.dmrs_qpsk.specs.Taken.{IsPointTaken};
 
-use crate::reference::reference_point;
+use crate::sequences::{Sequence, next_reference};
 use arrayvec::ArrayVec;
 use bits_core::Coded;
 use coreset_map::Reg;
@@ -61,11 +61,12 @@ fn take_regs(grid: &Grid, first: u8, regs: &[Reg], id: u16) -> Result<Coded, Bad
 {
     let _blocks = grid.blocks();
     let mut bits = Coded::new();
+    let mut sequence = None;
     for place in 0..12 * regs.len() {
         let reg = regs[place / 12];
         let k = (place % 12) as u8;
         let symbol = first + reg.symbol;
-        if let Err(flaw) = take_point(grid, symbol, id, reg.block, k, &mut bits) {
+        if let Err(flaw) = take_point(grid, &mut sequence, symbol, id, reg.block, k, &mut bits) {
             let subcarrier = 12 * reg.block + u16::from(k);
             return Err(BadPlace {
                 symbol,
@@ -78,8 +79,10 @@ fn take_regs(grid: &Grid, first: u8, regs: &[Reg], id: u16) -> Result<Coded, Bad
 }
 
 /// Appends the bits at subcarrier `k` of a REG, which is in this symbol of the slot and this block: two, or none at a reference place.
+/// `sequence` is where the reference points were last read, so that they need not be counted from the first one.
 fn take_point(
     grid: &Grid,
+    sequence: &mut Option<Sequence>,
     symbol: u8,
     id: u16,
     block: u16,
@@ -96,7 +99,7 @@ fn take_point(
     let _blocks = grid.blocks();
     let point = grid.get(symbol, 12 * block + u16::from(k));
     if k == 1 || k == 5 || k == 9 {
-        if point == reference_point(grid.slot(), symbol, id, block, k / 4) {
+        if point == next_reference(sequence, grid.slot(), symbol, id, block, k / 4) {
             return Ok(());
         }
         return Err(Flaw::Reference);
