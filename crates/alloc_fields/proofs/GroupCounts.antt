@@ -1,8 +1,7 @@
 -- How many groups of blocks there are.
 use Rattle.std.proofs.Common.{◌≡◌, ℕ, ◌+◌, ◌-◌, ◌*◌, ◌/◌, ◌%◌, ◌<◌, ◌≤◌, Bool, true, false, cond, nat_eq, nat_le, arith, refl}
-use Rattle.std.proofs.lemmas.Bool.{leb-true, leb-false}
+use Rattle.std.proofs.lemmas.Bool.{leb-true}
 use Rattle.std.proofs.lemmas.Nat.{mod_below, div_below, le-div}
-use Rattle.std.proofs.Math.Nat.{mul-div-le, div-add-mod}
 use Rattle.alloc_fields.specs.Groups.{group_size, group_count}
 
 -- what the size of a group may be

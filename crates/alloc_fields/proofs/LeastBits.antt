@@ -1,5 +1,5 @@
 -- The least number of bits that tell so many things apart.
-use Rattle.std.proofs.Common.{◌≡◌, ℕ, zero, suc, ◌+◌, ◌^◌, ◌<◌, ◌≤◌, Bool, true, false, inl, inr, cond, nat_le, Option, Some, unwrap_or, refl, ap, sym, subst, ◌∙◌, arith, below_more}
+use Rattle.std.proofs.Common.{◌≡◌, ℕ, zero, suc, ◌+◌, ◌^◌, ◌<◌, ◌≤◌, Bool, inl, inr, cond, nat_le, Some, unwrap_or, ap, sym, subst, arith, below_more}
 use Rattle.std.specs.List.{range_with_len, find}
 use Rattle.std.proofs.Math.Nat.{pow-le-pow_right}
 use Rattle.std.proofs.lemmas.Bool.{leb-true, leb-false, cases_Bool, cases_order}

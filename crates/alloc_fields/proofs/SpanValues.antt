@@ -84,7 +84,12 @@ candidate_is n start len value e =
     elim (value_cases n start len value e) [
       | inl short ↦ let r = front_read n start len value short in inl (omega (arith, r.quotient_is, r.rest_is, short.within, short.some), sym r.rest_is, omega (arith, r.quotient_is, short.some))
       | inr long ↦ let r = back_read n start len value long in
-          inr (omega (arith, r.quotient_is, r.rest_is, long.within, long.some, long.long), omega (arith, r.quotient_is, long.within, long.some, long.long), omega (arith, r.rest_is, long.within, long.some), omega (arith, r.quotient_is, long.within, long.some, long.long))
+          inr (
+            omega (arith, r.quotient_is, r.rest_is, long.within, long.some, long.long),
+            omega (arith, r.quotient_is, long.within, long.some, long.long),
+            omega (arith, r.rest_is, long.within, long.some),
+            omega (arith, r.quotient_is, long.within, long.some, long.long),
+          )
     ]
 
 -- no two spans have the same value

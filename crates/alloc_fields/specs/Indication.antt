@@ -1,5 +1,5 @@
 -- Resource indication values (3GPP TS 38.214, 5.1.2.2.2 and 6.1.2.2.2).
-use Rattle.std.specs.Prelude.{◌≡◌, ℕ, ◌+◌, ◌-◌, ◌*◌, ◌/◌, ◌&&◌, nat_lt, nat_le, cond, Option, Some, None}
+use Rattle.std.specs.Prelude.{ℕ, ◌+◌, ◌-◌, ◌*◌, ◌/◌, ◌&&◌, nat_lt, nat_le, cond, Option, Some, None}
 
 -- the value of a start and a length: N (L - 1) + S where L - 1 is at most half of N, else N (N - L + 1) + (N - 1 - S)
 abbrev pub value_of : ℕ → ℕ → ℕ → ℕ

@@ -11,7 +11,7 @@ exponents = 23 ∷ 21 ∷ 20 ∷ 17 ∷ 15 ∷ 13 ∷ 12 ∷ 8 ∷ 4 ∷ 2 ∷ 1
 unfoldable pub generator : List Bool
 generator = map (λ j. list_any (eqb (23 - j)) exponents) (range_with_len 0 24)
 
--- a remainder times D: moved up by one, plus the generator's low 24 bits where the bit that left was 1
+-- D times a remainder, reduced again: the bits move one place to the left, and a 1 that falls out adds the generator's other 24 bits
 unfoldable pub times_d : List Bool → List Bool
 times_d r = map (λ j. plus (bit_of r (j + 1)) (bit_of r 0 && bit_of generator j)) (range_with_len 0 24)
 

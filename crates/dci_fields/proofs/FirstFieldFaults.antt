@@ -1,5 +1,5 @@
 -- The function that finds the first fault of field values that are asked for.
-use Rattle.std.proofs.Common.{◌≡◌, ◌↔◌, ℕ, zero, suc, ◌+◌, ◌^◌, ◌<◌, ◌≤◌, Bool, true, false, ◌&&◌, nat_lt, cond, List, [], ◌∷◌, Option, Some, None, length, get_or, drop, refl, ap, sym, subst, ◌∙◌, arith}
+use Rattle.std.proofs.Common.{◌≡◌, ℕ, zero, suc, ◌+◌, ◌^◌, ◌<◌, Bool, true, false, nat_lt, cond, List, Option, Some, None, length, get_or, drop, refl, ap, sym, subst, arith}
 use Rattle.std.specs.List.{list_any, Contains}
 use Rattle.std.specs.Option.{option_or}
 use Rattle.std.proofs.lemmas.Bool.{and_parts, and_from, ltb-true, ltb-false}
@@ -17,7 +17,7 @@ use Rattle.dci_fields.specs.SameNames.{same_name}
 use Rattle.dci_fields.specs.Payloads.{is_all_ones}
 use Rattle.dci_fields.specs.GivenValues.{last_value, width_for, AreKnownBelow, AreKnown, IsFieldFault, IsPayloadOf}
 use Rattle.dci_fields.specs.FirstFieldFault.{fault_by, fault_from, is_all_ones_fdra, asks_for_order, field_fault, FindsFieldFault}
-use Rattle.dci_fields.proofs.GivenLists.{known_more, within_list}
+use Rattle.dci_fields.proofs.GivenLists.{known_more}
 use Rattle.dci_fields.proofs.RowLists.{named_same, same_named}
 use Rattle.dci_fields.proofs.PackingOutcomes.{unknown_apart, large_apart, unknown_within, large_within, one_fault, payload_or_fault}
 

@@ -1,29 +1,24 @@
 -- What a legal cell says of the numbers on which widths rest.
-use Rattle.std.proofs.Common.{◌≡◌, ℕ, zero, suc, ◌<◌, ◌≤◌, Bool, true, false, inl, inr, cond, nat_eq, nat_le, List, [], ◌∷◌, ◌++◌, Option, Some, None, IfSome, length, map, get_or, refl, ap, sym, ◌∙◌, arith}
+use Rattle.std.proofs.Common.{◌≡◌, ℕ, zero, suc, ◌<◌, ◌≤◌, Bool, true, inl, inr, nat_eq, nat_le, List, [], ◌∷◌, ◌++◌, Option, Some, None, IfSome, length, map, get_or, refl, ap, sym, ◌∙◌, arith}
 use Rattle.std.specs.List.{list_any, list_all}
 use Rattle.std.proofs.lemmas.List.{get_or_default}
 use Rattle.std.proofs.lemmas.Bool.{and_parts, or_cases, leb-true, eqb-true, cases_eq}
 use Rattle.rrc_settings.specs.Name.{is_from_to}
-use Rattle.rrc_settings.specs.Faults.{Steps, Finding, unless, fault_at, ◌▸◌, element, first_of, first_in, each}
+use Rattle.rrc_settings.specs.Faults.{Steps, Finding, fault_at, ◌▸◌, element, first_of, first_in, each}
 use Rattle.rrc_settings.specs.Table.{Row, in_range, in_range_if_given, is_one_of, is_group_limit, bwp_table, bwp_ranges, uplink_table, uplink_ranges, downlink_table, downlink_ranges, handset_table, handset_ranges, cell_table, cell_ranges, ranges_by, if_given}
 use Rattle.rrc_settings.specs.Conflicts.{cell_conflicts}
 use Rattle.rrc_settings.specs.Legal.{first_fault, IsLegal}
 use Rattle.rrc_settings.specs.declared.words.Key.{Key}
 use Rattle.rrc_settings.specs.declared.words.Key.TheVariants as keys
 use Rattle.rrc_settings.specs.declared.place.Reason.TheVariants.{OutOfRange}
-use Rattle.rrc_settings.specs.declared.place.SettingsFault.{SettingsFault}
 use Rattle.rrc_settings.specs.declared.settings.Bwp.{Bwp}
 use Rattle.rrc_settings.specs.declared.settings.UplinkFields.{UplinkFields}
 use Rattle.rrc_settings.specs.declared.settings.DownlinkFields.{DownlinkFields}
 use Rattle.rrc_settings.specs.declared.settings.Handset.{Handset}
 use Rattle.rrc_settings.specs.declared.settings.RawCell.{RawCell}
 use Rattle.rrc_settings.specs.HandsetsOfCell.{no_handset, handset_at}
+use Rattle.rrc_settings.proofs.NoFault.{first_none, unless_none}
 use Rattle.dci_fields.specs.LegalSettings.{IsBlockCount, IsBwp, IsGroupConfig, AreUplinkSettings, AreDownlinkSettings, AreInitialParts, IsLegalHandset}
-
--- checks of which none finds a fault
-first_none : (a : Finding) (rest : List Finding) → first_of (a ∷ rest) ≡ None → (a ≡ None) × (first_of rest ≡ None)
-first_none None rest e = (refl, e)
-first_none (Some fault) rest e = cc
 
 -- a list's element has no fault where none has
 each_none : {A : Type 0} (judge : Steps → A → Finding) (at : Steps) (earlier xs : List A) (k : ℕ) (d : A) → k < length xs
@@ -44,14 +39,10 @@ all_none : (fs : List Finding) → first_of fs ≡ None → AllNone fs
 all_none [] e = tt
 all_none (f ∷ fs) e = let parts = first_none f fs e in (parts.0, all_none fs parts.1)
 
-held : (b : Bool) (f : SettingsFault) → cond b None (Some f) ≡ None → b ≡ true
-held true f e = refl
-held false f e = cc
-
 -- a number that is in its range passes the test
 passes : (at : Steps) (key : Key) (range : ℕ → Bool) (n : ℕ) → in_range at key range n ≡ None → range n ≡ true
-unfolding in_range unless
-passes at key range n e = held (range n) (fault_at (at ▸ key) OutOfRange) e
+unfolding in_range
+passes at key range n e = unless_none (fault_at (at ▸ key) OutOfRange) (range n) e
 
 from_to : (low high n : ℕ) → is_from_to low high n ≡ true → (low ≤ n) × (n ≤ high)
 from_to low high n e = let parts = and_parts _ _ e in (leb-true low n parts.0, leb-true n high parts.1)

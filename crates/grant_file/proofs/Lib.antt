@@ -2,3 +2,4 @@ pub mod FieldNames
 pub mod Lists
 pub mod NoJson
 mod OtherFaults
+pub mod SlotLists

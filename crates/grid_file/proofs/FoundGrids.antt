@@ -186,6 +186,10 @@ reading_found : (bytes : List ℕ) (grid : GridValue) → IsTextOf grid bytes �
 unfolding reading_of
 reading_found bytes grid is = ap (λ o. ok_or o (leaving_place bytes)) (found_grid bytes grid is)
 
+-- what is written of a grid is read as that grid
+pub reads_written : (grid : GridValue) → IsGrid grid → reading_of (grid_text grid) ≡ Ok grid
+reads_written grid legal = reading_found (grid_text grid) grid (record { legal = legal; text = refl })
+
 reading_left : (bytes : List ℕ) (at : ℕ) → LeavesAt IsGridText bytes at → reading_of bytes ≡ Err at
 unfolding reading_of
 reading_left bytes at leaves =

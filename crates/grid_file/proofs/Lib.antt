@@ -15,3 +15,4 @@ pub mod OneText
 pub mod SharedTexts
 pub mod BlankGrids
 pub mod FoundGrids
+pub mod TextSizes

@@ -7,7 +7,7 @@ use Rattle.std.proofs.lemmas.Bool.Decides.{nat_tests}
 use Rattle.std.proofs.lemmas.List.{length-take-le, get_or_append_left, get_or-append_right, get_or-append-add, get_or-take}
 use Rattle.slot_grid.specs.Grid.{GridValue, IsGrid, point_at}
 use Rattle.slot_grid.specs.Image.{blank_grid, overwritten}
-use Rattle.slot_grid.proofs.Images.{length-overwritten, overwritten-is, point_at-overwritten}
+use Rattle.slot_grid.proofs.Images.{overwritten_is, overwritten-is, point_at-overwritten}
 use Rattle.grid_file.specs.Bytes.{point_byte, point_of}
 use Rattle.grid_file.specs.FoundGrid.{place_in_text, placed}
 use Rattle.grid_file.specs.GridText.{grid_head, symbol_line, grid_text}
@@ -76,15 +76,8 @@ placed_of_text grid legal =
 
 -- what bytes place is a grid
 pub placed_is_grid : (bytes : List ℕ) (blank : GridValue) → IsGrid blank → IsGrid (placed bytes blank)
-unfolding placed overwritten
-placed_is_grid bytes blank legal = record {
-  mu_most = legal.mu_most;
-  frame_most = legal.frame_most;
-  slot_below = legal.slot_below;
-  blocks_least = legal.blocks_least;
-  blocks_most = legal.blocks_most;
-  size = length-overwritten (λ s c. point_of (get_or bytes (place_in_text blank s c) 0)) blank;
-}
+unfolding placed
+placed_is_grid bytes blank legal = overwritten_is (λ s c. point_of (get_or bytes (place_in_text blank s c) 0)) blank legal
 
 -- the point that bytes place, where their character stands for one
 point_placed : (bytes : List ℕ) (grid : GridValue) (s c : ℕ) → s < 14 → c < 12 * grid.blocks

@@ -126,7 +126,7 @@ unfolding longest_front
 front-in cell h sizes common own x i =
     in-take x (greatest (λ n. keep_limits cell h sizes (common ++ take n own)) (length own)) own i
 
-result_cases : (over : CommonOver) (a b : Allotment) (t : Bool) → cond t (Ok a) (Err over) ≡ Ok b → a ≡ b
+pub result_cases : (over : CommonOver) (a b : Allotment) (t : Bool) → cond t (Ok a) (Err over) ≡ Ok b → a ≡ b
 result_cases over a b true e = cc
 result_cases over a b false e = absurd (cc)
 

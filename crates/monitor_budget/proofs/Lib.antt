@@ -9,3 +9,4 @@ pub mod Placed
 pub mod Adding
 pub mod Distinct
 pub mod LegalSearchSets
+pub mod FewCandidates

@@ -7,3 +7,4 @@ pub mod WatchParts
 pub mod Plans
 pub mod SoundWatches
 pub mod SharedRegs
+pub mod PlannedWatches

@@ -1,2 +1,3 @@
 pub mod Each
 mod Remainders
+pub mod NoFault

@@ -1,4 +1,5 @@
 pub mod Elements
+pub mod NoFault
 pub mod NoJson
 mod OtherConflicts
 mod OtherFaults

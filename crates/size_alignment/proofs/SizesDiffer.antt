@@ -1,12 +1,12 @@
 -- The sizes of fallback and of the other formats differ.
-use Rattle.std.proofs.Common.{◌≡◌, ◌≢◌, ℕ, ◌+◌, ◌<◌, ◌≤◌, Bool, true, false, not, ◌&&◌, ◌||◌, inl, inr, cond, nat_eq, nat_le, max, List, [], ◌∷◌, Option, Some, None, length, refl, ap, sym, subst, ◌∙◌, arith, eq-eqb}
-use Rattle.std.proofs.lemmas.Bool.{cases_Bool, le-leb, leb-false, eqb-true, and_parts}
+use Rattle.std.proofs.Common.{◌≡◌, ◌≢◌, ℕ, ◌+◌, ◌<◌, Bool, true, false, inl, inr, cond, nat_eq, nat_le, [], ◌∷◌, Some, length, refl, ap, sym, subst, ◌∙◌, arith, eq-eqb}
+use Rattle.std.proofs.lemmas.Bool.{cases_Bool, leb-false, eqb-true}
 use Rattle.rrc_settings.specs.declared.settings.RawCell.{RawCell}
 use Rattle.rrc_settings.specs.declared.settings.Handset.{Handset}
 use Rattle.rrc_settings.specs.declared.settings.SetKind.TheVariants as kinds
 use Rattle.dci_fields.specs.declared.formats.Format.TheVariants.{F01, F11}
 use Rattle.dci_fields.specs.declared.formats.Widths.TheVariants.{Own}
-use Rattle.dci_fields.specs.Alignment.{has_set, raw_size, common_size, fallback_size, where_monitored, told_apart, with_new, different, sizes_apart, are_few, sizes_joined, sizes_of}
+use Rattle.dci_fields.specs.Alignment.{has_set, raw_size, common_size, fallback_size, where_monitored, told_apart, different, sizes_apart, are_few, sizes_joined, sizes_of}
 use Rattle.size_alignment.proofs.FourSizes.{length-different-le, four, first_is_second, first_is_third, first_is_fourth}
 
 some_number : (a b : ℕ) → Some a ≡ Some b → a ≡ b

@@ -6,7 +6,7 @@ use Rattle.std.proofs.lemmas.List.{same_lists, get_or_default}
 use Rattle.std.proofs.lemmas.List.FromFn.{get_or-map-range_with_len, length-map-range_with_len}
 use Rattle.slot_grid.specs.declared.places.Point.{Point}
 use Rattle.slot_grid.specs.declared.places.Point.TheVariants.{Empty}
-use Rattle.slot_grid.specs.Grid.{GridValue, point_at}
+use Rattle.slot_grid.specs.Grid.{GridValue, IsGrid, point_at}
 use Rattle.slot_grid.specs.Image.{Image, overwritten, Agrees, AreCompatible, IsWithin}
 
 -- the point that an overwritten grid has at place i of its list
@@ -17,6 +17,18 @@ point_there image grid i =
 pub length-overwritten : (image : Image) (grid : GridValue) → length (overwritten image grid).points ≡ 14 * (12 * grid.blocks)
 unfolding overwritten
 length-overwritten image grid = length-map-range_with_len (point_there image grid) 0 (14 * (12 * grid.blocks))
+
+-- an overwritten grid is a grid
+pub overwritten_is : (image : Image) (grid : GridValue) → IsGrid grid → IsGrid (overwritten image grid)
+unfolding overwritten
+overwritten_is image grid legal = record {
+  mu_most = legal.mu_most;
+  frame_most = legal.frame_most;
+  slot_below = legal.slot_below;
+  blocks_least = legal.blocks_least;
+  blocks_most = legal.blocks_most;
+  size = length-overwritten image grid;
+}
 
 -- an overwritten grid has the image's point, or else the point that it had
 pub point_at-overwritten : (image : Image) (grid : GridValue) (s c : ℕ) → s < 14 → c < 12 * grid.blocks

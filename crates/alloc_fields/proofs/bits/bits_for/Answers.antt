@@ -1,4 +1,4 @@
-use Rattle.std.proofs.Common.{ℕ, ◌^◌, ◌<◌, ◌≤◌, arith, rules}
+use Rattle.std.proofs.Common.{◌^◌, ◌≤◌, arith, rules}
 use Rattle.alloc_fields.proofs.LeastBits.{bits_for-is}
 use Rattle.alloc_fields.proofs.bits.bits_for.Goals as goal
 

@@ -1,6 +1,6 @@
-use Rattle.std.proofs.Common.{◌≡◌, ◌+◌, ◌%◌, ◌<◌, ◌≤◌, ℕ, arith, subst, sym, ap, ◌∙◌}
+use Rattle.std.proofs.Common.{◌+◌, ◌%◌, ◌<◌, ◌≤◌, ℕ, arith, subst, sym, ap}
 use Rattle.std.proofs.lemmas.Nat.{mod_below}
-use Rattle.alloc_fields.specs.Groups.{quotient_up, group_size, group_count}
+use Rattle.alloc_fields.specs.Groups.{quotient_up, group_count}
 use Rattle.alloc_fields.proofs.GroupCounts.{group_count-le, group_count-some}
 use Rattle.alloc_fields.proofs.groups.group_count.Goals as goal
 

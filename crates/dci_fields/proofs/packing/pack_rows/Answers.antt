@@ -48,4 +48,6 @@ loop-row-preserved c =
     (c.append_number.ensures ∙ ap (λ (value : ℕ). c.loop-row.payload ++ bits_of (get_or c.args.rows.now c.loop-row.row-index d).width value) c.settled_value-value.ensures)
 
 pub returns : goal.returns
-returns c = packed_whole c.args.rows.now c.args.format c.args.given.now c.loop-row.row-index c.args.size c.loop-row.payload c.pad.new.payload c.requires.list c.in_ok-check_given.ensures.known c.loop-row-test.false c.loop-row.auto.row-index-end c.loop-row.invariant c.pad.ensures
+returns c =
+    packed_whole c.args.rows.now c.args.format c.args.given.now c.loop-row.row-index c.args.size c.loop-row.payload c.pad.new.payload c.requires.list
+    c.in_ok-check_given.ensures.known c.loop-row-test.false c.loop-row.auto.row-index-end c.loop-row.invariant c.pad.ensures
