@@ -189,7 +189,7 @@ heard_first tables desk grant grants a legal h e =
     heard_standing tables desk.grid.slot w grant payload (desk_after tables (step tables desk grant) grants) a.watch legal known.spot.sound known.fitting packs last
 
 -- an answer that tells a place is that of an entry
-accepted_of : (r : Result Accepted Refusal) (placed : Placed) → answer_of r ≡ Ok placed → (a : Accepted) × (r ≡ Ok a) × (a.watch ≡ placed.watch)
+pub accepted_of : (r : Result Accepted Refusal) (placed : Placed) → answer_of r ≡ Ok placed → (a : Accepted) × (r ≡ Ok a) × (a.watch ≡ placed.watch)
 accepted_of (Ok a) placed e = (a, refl, ap (λ (p : Placed). p.watch) (same_place _ placed e))
   where
     same_place : (p q : Placed) → ◌≡◌ {A = Result Placed Refusal} (Ok p) (Ok q) → p ≡ q
@@ -200,10 +200,10 @@ pub members_kept : (ledger : LedgerValue) (r : Result Accepted Refusal) → (boo
 members_kept ledger (Ok a) = refl
 members_kept ledger (Err refusal) = refl
 
-same_grant : (a b : Grant) → Some a ≡ Some b → a ≡ b
+pub same_grant : (a b : Grant) → Some a ≡ Some b → a ≡ b
 same_grant a b e = cc
 
-same_answer : (a b : Result Placed Refusal) → Some a ≡ Some b → a ≡ b
+pub same_answer : (a b : Result Placed Refusal) → Some a ≡ Some b → a ≡ b
 same_answer a b e = cc
 
 pub heard_among : HearsEachAccepted

@@ -10,3 +10,6 @@ pub mod Histories
 pub mod Heard
 pub mod Earliest
 pub mod FieldChecks
+pub mod OpenedDesks
+pub mod NamedHandsets
+pub mod WrittenGrids

@@ -53,7 +53,7 @@ one_made cell frame slot count n members m h so_far made =
           ∙ behind_both members m rest;
     }
 
-none_left : (cell : RawCell) (frame slot : ℕ) → members_at cell frame slot [] ≡ Ok []
+pub none_left : (cell : RawCell) (frame slot : ℕ) → members_at cell frame slot [] ≡ Ok []
 unfolding members_at
 none_left cell frame slot = refl
 

@@ -8,6 +8,7 @@ pub mod Placing
 pub mod Opened
 pub mod OpeningFaults
 pub mod Made
+pub mod OpenedDesk
 pub mod Earliest
 pub mod Written
 pub mod Equality

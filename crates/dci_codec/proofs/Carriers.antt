@@ -82,7 +82,9 @@ carried_from tables grid w bits block payload h g e =
 pub one_block : (tables : Tables) (w : Watch) (c other : List Bool) → AreTables tables → IsCarrying w → length c ≡ block_len w → length other ≡ block_len w
     → code tables w c ≡ code tables w other → c ≡ other
 one_block tables w c other legal keeps h g e =
-    code_by_once tables.reliability tables.input_order (block_len w) (sent_len w) c other legal.0 legal.1 (let longest = keeps.longest in omega (arith, longest)) (enough_at w.size w.level keeps.shortest keeps.longest keeps.room keeps.level) h g e
+    let longest = keeps.longest in
+    let enough = enough_at w.size w.level keeps.shortest keeps.longest keeps.room keeps.level in
+    code_by_once tables.reliability tables.input_order (block_len w) (sent_len w) c other legal.0 legal.1 (omega (arith, longest)) enough h g e
 
 -- a grid carries one payload at most
 pub carried_once : (tables : Tables) (grid : GridValue) (w : Watch) (payload other : List Bool) → AreTables tables → IsCarrying w

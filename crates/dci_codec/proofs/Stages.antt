@@ -192,38 +192,52 @@ one_heard tables grid w number h g legal keeps a b =
 pub one_answer : (tables : Tables) (grid : GridValue) (w : Watch) (number : ℕ) (x y : Result Heard Silence) → AreTables tables → IsSound w
     → IsAnswer tables grid w number x → IsAnswer tables grid w number y → x ≡ y
 one_answer tables grid w number (Ok x) (Ok y) legal keeps h g = ap (λ (z : Heard). Ok z) (one_heard tables grid w number x y legal keeps h g)
-one_answer tables grid w number (Ok x) (Err (silence.Spot worse)) legal keeps h g = absurd (spot_apart grid w worse keeps.carrying g (receives_repeats grid w (repeats_decodes tables grid w (decodes_ok tables grid w number x keeps h))))
-one_answer tables grid w number (Ok x) (Err (silence.Repeat other)) legal keeps h g = absurd (repeat_apart grid w other keeps.carrying g (repeats_decodes tables grid w (decodes_ok tables grid w number x keeps h)))
+one_answer tables grid w number (Ok x) (Err (silence.Spot worse)) legal keeps h g =
+    absurd (spot_apart grid w worse keeps.carrying g (receives_repeats grid w (repeats_decodes tables grid w (decodes_ok tables grid w number x keeps h))))
+one_answer tables grid w number (Ok x) (Err (silence.Repeat other)) legal keeps h g =
+    absurd (repeat_apart grid w other keeps.carrying g (repeats_decodes tables grid w (decodes_ok tables grid w number x keeps h)))
 one_answer tables grid w number (Ok x) (Err silence.Code) legal keeps h g = absurd (code_apart tables grid w keeps.carrying g (decodes_ok tables grid w number x keeps h))
 one_answer tables grid w number (Ok x) (Err silence.Crc) legal keeps h g = absurd (parity_apart tables grid w h.spells.payload legal keeps.carrying g (carried_heard tables grid w number x keeps h))
 one_answer tables grid w number (Ok x) (Err silence.Format) legal keeps h g = absurd (g.none (spelling_of x.format h.values) h.spells)
-one_answer tables grid w number (Err (silence.Spot bad)) (Ok y) legal keeps h g = absurd (spot_apart grid w bad keeps.carrying h (receives_repeats grid w (repeats_decodes tables grid w (decodes_ok tables grid w number y keeps g))))
-one_answer tables grid w number (Err (silence.Spot bad)) (Err (silence.Spot worse)) legal keeps h g = ap (λ (z : BadPlace). Err (silence.Spot z)) (one_first grid w.symbol w.dmrs_id w.regs.items bad worse h g)
+one_answer tables grid w number (Err (silence.Spot bad)) (Ok y) legal keeps h g =
+    absurd (spot_apart grid w bad keeps.carrying h (receives_repeats grid w (repeats_decodes tables grid w (decodes_ok tables grid w number y keeps g))))
+one_answer tables grid w number (Err (silence.Spot bad)) (Err (silence.Spot worse)) legal keeps h g =
+    ap (λ (z : BadPlace). Err (silence.Spot z)) (one_first grid w.symbol w.dmrs_id w.regs.items bad worse h g)
 one_answer tables grid w number (Err (silence.Spot bad)) (Err (silence.Repeat other)) legal keeps h g = absurd (spot_apart grid w bad keeps.carrying h (receives_repeat grid w other g))
 one_answer tables grid w number (Err (silence.Spot bad)) (Err silence.Code) legal keeps h g = absurd (spot_apart grid w bad keeps.carrying h (receives_repeats grid w (repeats_code tables grid w g)))
-one_answer tables grid w number (Err (silence.Spot bad)) (Err silence.Crc) legal keeps h g = absurd (spot_apart grid w bad keeps.carrying h (receives_repeats grid w (repeats_decodes tables grid w (decodes_crc tables grid w g))))
-one_answer tables grid w number (Err (silence.Spot bad)) (Err silence.Format) legal keeps h g = absurd (spot_apart grid w bad keeps.carrying h (receives_repeats grid w (repeats_decodes tables grid w (decodes_format tables grid w keeps.carrying g))))
-one_answer tables grid w number (Err (silence.Repeat at)) (Ok y) legal keeps h g = absurd (repeat_apart grid w at keeps.carrying h (repeats_decodes tables grid w (decodes_ok tables grid w number y keeps g)))
+one_answer tables grid w number (Err (silence.Spot bad)) (Err silence.Crc) legal keeps h g =
+    absurd (spot_apart grid w bad keeps.carrying h (receives_repeats grid w (repeats_decodes tables grid w (decodes_crc tables grid w g))))
+one_answer tables grid w number (Err (silence.Spot bad)) (Err silence.Format) legal keeps h g =
+    absurd (spot_apart grid w bad keeps.carrying h (receives_repeats grid w (repeats_decodes tables grid w (decodes_format tables grid w keeps.carrying g))))
+one_answer tables grid w number (Err (silence.Repeat at)) (Ok y) legal keeps h g =
+    absurd (repeat_apart grid w at keeps.carrying h (repeats_decodes tables grid w (decodes_ok tables grid w number y keeps g)))
 one_answer tables grid w number (Err (silence.Repeat at)) (Err (silence.Spot worse)) legal keeps h g = absurd (spot_apart grid w worse keeps.carrying g (receives_repeat grid w at h))
 one_answer tables grid w number (Err (silence.Repeat at)) (Err (silence.Repeat other)) legal keeps h g = ap (λ (z : ℕ). Err (silence.Repeat z)) (one_repeat grid w at other keeps.carrying h g)
 one_answer tables grid w number (Err (silence.Repeat at)) (Err silence.Code) legal keeps h g = absurd (repeat_apart grid w at keeps.carrying h (repeats_code tables grid w g))
-one_answer tables grid w number (Err (silence.Repeat at)) (Err silence.Crc) legal keeps h g = absurd (repeat_apart grid w at keeps.carrying h (repeats_decodes tables grid w (decodes_crc tables grid w g)))
-one_answer tables grid w number (Err (silence.Repeat at)) (Err silence.Format) legal keeps h g = absurd (repeat_apart grid w at keeps.carrying h (repeats_decodes tables grid w (decodes_format tables grid w keeps.carrying g)))
+one_answer tables grid w number (Err (silence.Repeat at)) (Err silence.Crc) legal keeps h g =
+    absurd (repeat_apart grid w at keeps.carrying h (repeats_decodes tables grid w (decodes_crc tables grid w g)))
+one_answer tables grid w number (Err (silence.Repeat at)) (Err silence.Format) legal keeps h g =
+    absurd (repeat_apart grid w at keeps.carrying h (repeats_decodes tables grid w (decodes_format tables grid w keeps.carrying g)))
 one_answer tables grid w number (Err silence.Code) (Ok y) legal keeps h g = absurd (code_apart tables grid w keeps.carrying h (decodes_ok tables grid w number y keeps g))
-one_answer tables grid w number (Err silence.Code) (Err (silence.Spot worse)) legal keeps h g = absurd (spot_apart grid w worse keeps.carrying g (receives_repeats grid w (repeats_code tables grid w h)))
+one_answer tables grid w number (Err silence.Code) (Err (silence.Spot worse)) legal keeps h g =
+    absurd (spot_apart grid w worse keeps.carrying g (receives_repeats grid w (repeats_code tables grid w h)))
 one_answer tables grid w number (Err silence.Code) (Err (silence.Repeat other)) legal keeps h g = absurd (repeat_apart grid w other keeps.carrying g (repeats_code tables grid w h))
 one_answer tables grid w number (Err silence.Code) (Err silence.Code) legal keeps h g = refl
 one_answer tables grid w number (Err silence.Code) (Err silence.Crc) legal keeps h g = absurd (code_apart tables grid w keeps.carrying h (decodes_crc tables grid w g))
 one_answer tables grid w number (Err silence.Code) (Err silence.Format) legal keeps h g = absurd (code_apart tables grid w keeps.carrying h (decodes_format tables grid w keeps.carrying g))
 one_answer tables grid w number (Err silence.Crc) (Ok y) legal keeps h g = absurd (parity_apart tables grid w g.spells.payload legal keeps.carrying h (carried_heard tables grid w number y keeps g))
-one_answer tables grid w number (Err silence.Crc) (Err (silence.Spot worse)) legal keeps h g = absurd (spot_apart grid w worse keeps.carrying g (receives_repeats grid w (repeats_decodes tables grid w (decodes_crc tables grid w h))))
-one_answer tables grid w number (Err silence.Crc) (Err (silence.Repeat other)) legal keeps h g = absurd (repeat_apart grid w other keeps.carrying g (repeats_decodes tables grid w (decodes_crc tables grid w h)))
+one_answer tables grid w number (Err silence.Crc) (Err (silence.Spot worse)) legal keeps h g =
+    absurd (spot_apart grid w worse keeps.carrying g (receives_repeats grid w (repeats_decodes tables grid w (decodes_crc tables grid w h))))
+one_answer tables grid w number (Err silence.Crc) (Err (silence.Repeat other)) legal keeps h g =
+    absurd (repeat_apart grid w other keeps.carrying g (repeats_decodes tables grid w (decodes_crc tables grid w h)))
 one_answer tables grid w number (Err silence.Crc) (Err silence.Code) legal keeps h g = absurd (code_apart tables grid w keeps.carrying g (decodes_crc tables grid w h))
 one_answer tables grid w number (Err silence.Crc) (Err silence.Crc) legal keeps h g = refl
 one_answer tables grid w number (Err silence.Crc) (Err silence.Format) legal keeps h g = absurd (parity_apart tables grid w g.payload legal keeps.carrying h g.carried)
 one_answer tables grid w number (Err silence.Format) (Ok y) legal keeps h g = absurd (h.none (spelling_of y.format g.values) g.spells)
-one_answer tables grid w number (Err silence.Format) (Err (silence.Spot worse)) legal keeps h g = absurd (spot_apart grid w worse keeps.carrying g (receives_repeats grid w (repeats_decodes tables grid w (decodes_format tables grid w keeps.carrying h))))
-one_answer tables grid w number (Err silence.Format) (Err (silence.Repeat other)) legal keeps h g = absurd (repeat_apart grid w other keeps.carrying g (repeats_decodes tables grid w (decodes_format tables grid w keeps.carrying h)))
+one_answer tables grid w number (Err silence.Format) (Err (silence.Spot worse)) legal keeps h g =
+    absurd (spot_apart grid w worse keeps.carrying g (receives_repeats grid w (repeats_decodes tables grid w (decodes_format tables grid w keeps.carrying h))))
+one_answer tables grid w number (Err silence.Format) (Err (silence.Repeat other)) legal keeps h g =
+    absurd (repeat_apart grid w other keeps.carrying g (repeats_decodes tables grid w (decodes_format tables grid w keeps.carrying h)))
 one_answer tables grid w number (Err silence.Format) (Err silence.Code) legal keeps h g = absurd (code_apart tables grid w keeps.carrying g (decodes_format tables grid w keeps.carrying h))
 one_answer tables grid w number (Err silence.Format) (Err silence.Crc) legal keeps h g = absurd (parity_apart tables grid w h.payload legal keeps.carrying g h.carried)
 one_answer tables grid w number (Err silence.Format) (Err silence.Format) legal keeps h g = refl

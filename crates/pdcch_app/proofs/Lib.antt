@@ -4,3 +4,10 @@ pub mod Listeners
 pub mod SlotsOver
 pub mod Placings
 pub mod Spellings
+pub mod Heard
+pub mod Spelled
+pub mod Exceeding
+pub mod FilesRead
+pub mod JobsDone
+pub mod CausesFound
+pub mod Endings

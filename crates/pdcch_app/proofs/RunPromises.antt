@@ -1,8 +1,6 @@
 -- The promises of a run of the program.
-use Rattle.std.proofs.Common.{◌≡◌, ◌≤◌, ℕ, true, cond, List, [], ◌∷◌, Option, Some, None, Result, Ok, String, length, refl, ap, ◌∙◌, arith, ◌==◌}
-use Rattle.std.specs.declared.alloc.Global.{Global}
+use Rattle.std.proofs.Common.{◌≡◌, ◌≤◌, ℕ, true, List, [], ◌∷◌, Option, None, Result, Ok, length, refl, ap, ◌∙◌, arith, ◌==◌}
 use Rattle.std.proofs.lemmas.Bool.Decides.{nat_tests}
-use Rattle.run_steps.specs.declared.statuses.Status.TheVariants as ends
 use Rattle.grid_file.specs.FoundGrid.{reading_of}
 use Rattle.grant_file.specs.First.{first_fault_in as first_grants_fault, grants_in}
 use Rattle.settings_json.specs.First.{first_fault_in, raw_in}
@@ -10,37 +8,30 @@ use Rattle.rrc_settings.specs.declared.settings.RawCell.{RawCell}
 use Rattle.slot_grid.specs.Grid.{GridValue}
 use Rattle.table_files.specs.TableText.{read_table}
 use Rattle.table_files.specs.declared.tables.Tables.{Tables}
-use Rattle.cell_placer.specs.Opened.{SlotOver, opened}
+use Rattle.cell_placer.specs.Opened.{opened}
 use Rattle.cell_placer.specs.Placing.{DeskValue}
 use Rattle.grant_file.specs.declared.grants.GrantList.{GrantList}
-use Rattle.run_steps.specs.Outcome.{Outcome, Refusal, Printed, Fetched, given_of, limit, reading, ended}
-use Rattle.run_steps.proofs.RunPromises.{ends-with}
+use Rattle.run_steps.specs.Outcome.{Outcome, Refusal, Fetched, given_of, limit, reading, ended}
 use Rattle.run_steps.proofs.Taking.{given_of-within}
 use Rattle.pdcch_app.specs.Checks.{settings_of, settings_found, grants_found, grants_of, grid_fitting, grid_read, grid_of, reliability_of, input_order_of, table_found}
 use Rattle.pdcch_app.specs.Lines.{reliability_line, input_order_line}
-use Rattle.pdcch_app.specs.Outcomes.{outcome, served}
-use Rattle.pdcch_app.specs.Promises.{RefusesWords, WritesEveryList, SearchesEveryGrid}
+use Rattle.pdcch_app.specs.Outcomes.{served}
+use Rattle.pdcch_app.specs.Promises.{WritesEveryList, SearchesEveryGrid}
 use Rattle.pdcch_app.specs.Reporting.{Listener, reported, listeners_of, reported_text, heard_by, heard_of_all, searched}
-use Rattle.pdcch_app.specs.Words.{legal, file, handset}
+use Rattle.pdcch_app.specs.Words.{file, handset}
 use Rattle.pdcch_app.specs.Writing.{placed_on, written_on, written}
 
-served-none : (words : List (String Global)) (gave : List Fetched) → legal words ≡ None → (outcome words gave).status ≡ ends.Usage
-served-none words gave e = rw e refl
-
-pub refuses_words : RefusesWords
-refuses_words words old new result oo on eo en r e =
-    ends-with (outcome words r.gave) r.answer result ends.Usage r.is r.delivered.status (served-none words r.gave e)
-
 -- a file that its check accepts is passed on to the next step
-went : {A : Type 0} (check : List ℕ → Result A Refusal) (name : List ℕ) (next : A → List Fetched → Outcome) (bytes : List ℕ) (rest : List Fetched) (a : A) → length bytes ≤ limit → check bytes ≡ Ok a → reading check name next (given_of bytes ∷ rest) ≡ next a rest
+went : {A : Type 0} (check : List ℕ → Result A Refusal) (name : List ℕ) (next : A → List Fetched → Outcome) (bytes : List ℕ) (rest : List Fetched) (a : A)
+    → length bytes ≤ limit → check bytes ≡ Ok a → reading check name next (given_of bytes ∷ rest) ≡ next a rest
 unfolding reading
 went check name next bytes rest a h e = rw (given_of-within bytes h, e) refl
 
-settings-read : (bytes : List ℕ) → first_fault_in bytes ≡ None → settings_of bytes ≡ Ok (raw_in bytes)
+pub settings-read : (bytes : List ℕ) → first_fault_in bytes ≡ None → settings_of bytes ≡ Ok (raw_in bytes)
 unfolding settings_of
 settings-read bytes e = ap (λ found. settings_found found (raw_in bytes)) e
 
-grants-read : (cell : RawCell) (bytes : List ℕ) → first_grants_fault cell.mu bytes ≡ None → grants_of cell bytes ≡ Ok (grants_in bytes)
+pub grants-read : (cell : RawCell) (bytes : List ℕ) → first_grants_fault cell.mu bytes ≡ None → grants_of cell bytes ≡ Ok (grants_in bytes)
 unfolding grants_of
 grants-read cell bytes e = ap (λ found. grants_found found (grants_in bytes)) e
 
@@ -50,16 +41,16 @@ equal_numbers a b e = grind (arith, nat_tests)
 grid-fits : (cell : RawCell) (grid : GridValue) → grid.mu ≡ cell.mu → grid.blocks ≡ cell.blocks → grid_fitting cell grid ≡ Ok grid
 grid-fits cell grid m b = rw (equal_numbers grid.mu cell.mu m, equal_numbers grid.blocks cell.blocks b) refl
 
-grid-read : (cell : RawCell) (bytes : List ℕ) (grid : GridValue) → reading_of bytes ≡ Ok grid → grid.mu ≡ cell.mu → grid.blocks ≡ cell.blocks
+pub grid-read : (cell : RawCell) (bytes : List ℕ) (grid : GridValue) → reading_of bytes ≡ Ok grid → grid.mu ≡ cell.mu → grid.blocks ≡ cell.blocks
     → grid_of cell bytes ≡ Ok grid
 unfolding grid_of
 grid-read cell bytes grid e m b = ap (grid_read cell) e ∙ grid-fits cell grid m b
 
-reliability-read : (bytes numbers : List ℕ) → read_table 1024 bytes ≡ Ok numbers → reliability_of bytes ≡ Ok numbers
+pub reliability-read : (bytes numbers : List ℕ) → read_table 1024 bytes ≡ Ok numbers → reliability_of bytes ≡ Ok numbers
 unfolding reliability_of
 reliability-read bytes numbers e = ap (table_found reliability_line) e
 
-input_order-read : (bytes numbers : List ℕ) → read_table 164 bytes ≡ Ok numbers → input_order_of bytes ≡ Ok numbers
+pub input_order-read : (bytes numbers : List ℕ) → read_table 164 bytes ≡ Ok numbers → input_order_of bytes ≡ Ok numbers
 unfolding input_order_of
 input_order-read bytes numbers e = ap (table_found input_order_line) e
 

@@ -1,13 +1,12 @@
 -- A slot that is refused names a handset of the cell.
-use Rattle.std.proofs.Common.{◌≡◌, ℕ, zero, suc, ◌+◌, ◌<◌, List, [], ◌∷◌, Result, Ok, Err, length, refl, ap, subst, arith}
+use Rattle.std.proofs.Common.{◌≡◌, ℕ, zero, suc, ◌+◌, ◌<◌, List, Result, Ok, Err, length, ap, subst, arith}
 use Rattle.std.specs.List.{range_with_len}
 use Rattle.rrc_settings.specs.declared.settings.RawCell.{RawCell}
 use Rattle.monitor_budget.specs.declared.allotment.CommonOver.{CommonOver}
 use Rattle.monitor_plan.specs.declared.watch.Watch.{Watch}
-use Rattle.monitor_plan.specs.Planned.{planned, over_by}
+use Rattle.monitor_plan.specs.Planned.{planned}
 use Rattle.cell_placer.specs.declared.member.Member.{Member}
 use Rattle.cell_placer.specs.Opened.{SlotOver, before, members_at, new_desk, opened}
-use Rattle.cell_placer.specs.Placing.{DeskValue}
 
 -- by the plan of a handset, and by what is found of the others
 before_within : (cell : RawCell) (handset bound : ℕ) (plan : Result (List Watch) CommonOver) (rest : Result (List Member) SlotOver) (slot : SlotOver) → handset < bound

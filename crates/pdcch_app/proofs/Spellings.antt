@@ -55,7 +55,7 @@ read_on (Some flag) text (w ∷ v ∷ vs) more list p e h =
     let left : arguments_after None vs ≡ list = h vs rest in
     cc
 
-both : (a b : Bool) → (a && b) ≡ true → (a ≡ true) × (b ≡ true)
+pub both : (a b : Bool) → (a && b) ≡ true → (a ≡ true) × (b ≡ true)
 both true true h = (refl, refl)
 both true false h = search
 both false b h = search
@@ -119,7 +119,7 @@ spell_after (w ∷ ws) (Some flag) p =
     ap (λ rest. flag_name flag ∷ string_bytes w ∷ rest) (spell_after ws None (both (is_plain (string_bytes w)) (are_plain (arguments_after None ws)) p).1)
 
 -- what a legal line has
-taken : (o : Option Command) (list : List Argument) (command : Command)
+pub taken : (o : Option Command) (list : List Argument) (command : Command)
     → option_and_then (λ c. cond (are_for c list) (Some c) None) o ≡ Some command → (o ≡ Some command) × (are_for command list ≡ true)
 taken None list command h = search
 taken (Some c) list command h =

@@ -7,4 +7,7 @@ pub mod Reporting
 pub mod Writing
 pub mod Outcomes
 pub mod Promises
+pub mod Hearing
+pub mod Causes
+pub mod Endings
 pub mod Exits

@@ -1,8 +1,7 @@
 -- What a run of the program promises, as sentences over what it leaves and over its outcome.
-use Rattle.std.specs.Prelude.{◌≡◌, ◌≤◌, ◌⊎◌, ℕ, cond, List, [], ◌∷◌, Some, None, Ok, String, length}
+use Rattle.std.specs.Prelude.{◌≡◌, ◌≤◌, ℕ, cond, List, [], ◌∷◌, Some, None, Ok, String, length}
 use Rattle.std.specs.List.{list_all}
 use Rattle.std.specs.declared.alloc.Global.{Global}
-use Rattle.outside.specs.Views.{ShelfView, SinkView}
 use Rattle.settings_json.specs.First.{first_fault_in, raw_in}
 use Rattle.table_files.specs.TableText.{read_table}
 use Rattle.table_files.specs.declared.tables.Tables.{Tables}
@@ -12,21 +11,13 @@ use Rattle.grid_file.specs.GridText.{grid_text}
 use Rattle.slot_grid.specs.Grid.{GridValue}
 use Rattle.cell_placer.specs.Opened.{opened}
 use Rattle.cell_placer.specs.Placing.{DeskValue, fates, desk_after}
-use Rattle.run_steps.specs.declared.statuses.Status.{Status}
 use Rattle.run_steps.specs.declared.statuses.Status.TheVariants as ends
 use Rattle.run_steps.specs.Outcome.{given_of, limit}
-use Rattle.run_steps.specs.Ran.{Ran}
 use Rattle.pdcch_app.specs.declared.words.Command.TheVariants.{Write, Search}
 use Rattle.pdcch_app.specs.Outcomes.{outcome}
 use Rattle.pdcch_app.specs.Reporting.{Listener, reported, listeners_of, reported_text}
-use Rattle.pdcch_app.specs.Words.{legal, named, handset}
+use Rattle.pdcch_app.specs.Words.{legal, handset}
 use Rattle.pdcch_app.specs.Writing.{is_placed, refusal_lines}
-
--- words that are not legal end as such, or for want of memory or a fault of writing
-abbrev pub RefusesWords : Type 0
-RefusesWords = (words : List (String Global)) (shelf_old shelf_new : ShelfView) (result : Status) (out_old out_new err_old err_new : SinkView)
-    → Ran (outcome words) (named words) shelf_old shelf_new result out_old out_new err_old err_new → legal words ≡ None
-    → (result ≡ ends.Usage) ⊎ ((result ≡ ends.WriteFault) ⊎ (result ≡ ends.NoMemory))
 
 -- for legal words of `write`, every legal cell, any two tables and every legal list of grants, where no handset's common sets
 -- exceed a limit in the slot: the output is the text of the grid that the grants leave on the blank grid of the slot, the error

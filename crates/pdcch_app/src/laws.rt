@@ -1,6 +1,21 @@
 //! What a run of the program promises: laws over the definitions that the contract of `run` names, as the contracts of
 //! functions with nothing to do. Those of every run, whatever its commands, stand in `run_steps`.
-ghost use Rattle.pdcch_app.specs.Promises.{RefusesWords, WritesEveryList, SearchesEveryGrid};
+ghost use Rattle.pdcch_app.specs.Hearing.{HearsWhatIsWritten, ReportsWhatIsSpelled};
+ghost use Rattle.pdcch_app.specs.Promises.{WritesEveryList, SearchesEveryGrid};
+ghost use Rattle.pdcch_app.specs.Endings.{
+  EndsByItsCause,
+  EndsAsUsage,
+  EndsAsSettingsRefused,
+  EndsAsTableRefused,
+  EndsAsGrantsFileRefused,
+  EndsAsGridRefused,
+  EndsAsReadFaultOfAFile,
+  EndsAsFileTooLong,
+  EndsAsNoSuch,
+  EndsAsSlotRefused,
+  EndsAsGrantsRefused,
+  EndsAsDone,
+};
 ghost use Rattle.pdcch_app.specs.Spelling.{LegalWordsAreSpelled, ReadsWhatIsSpelled};
 
 /// Words are legal for a command exactly where they are its name and then its arguments, options at any place.
@@ -13,11 +28,6 @@ pub fn reads_what_is_spelled()
     ensures { ReadsWhatIsSpelled }
 {}
 
-/// Words that are not legal are refused.
-pub fn refuses_words()
-    ensures { RefusesWords }
-{}
-
 /// Every legal cell, any two tables and every legal list of grants give the text of one grid, and a line for each grant that
 /// is refused.
 pub fn writes_every_list()
@@ -27,4 +37,83 @@ pub fn writes_every_list()
 /// Every legal cell, any two tables and every grid of the cell give the report of what the grid spells.
 pub fn searches_every_grid()
     ensures { SearchesEveryGrid }
+{}
+
+/// What is printed of each reported handset has just what the grid spells at its watches.
+pub fn reports_what_is_spelled()
+    ensures { ReportsWhatIsSpelled }
+{}
+
+/// What `write` prints is a grid that `search` reads, and its report has each accepted grant of a reported handset, as it was given.
+pub fn hears_what_is_written()
+    ensures { HearsWhatIsWritten }
+{}
+
+/// An outcome has a status exactly where the cause of that status is there: each outcome has one cause, and each cause one
+/// status.
+pub fn ended_by_its_cause()
+    ensures { EndsByItsCause }
+{}
+
+/// A run ends as a usage error exactly where the words are of no command. Here and below a run with the cause may end for
+/// want of memory or as a fault of writing instead, and in no other way.
+pub fn ends_as_usage()
+    ensures { EndsAsUsage }
+{}
+
+/// A run ends with refused settings exactly where the words are legal and the first file is no legal settings.
+pub fn ends_as_settings_refused()
+    ensures { EndsAsSettingsRefused }
+{}
+
+/// A run ends with a refused table exactly where the settings were read and the second file is no reliability table, or both
+/// were read and the third file is no input order.
+pub fn ends_as_table_refused()
+    ensures { EndsAsTableRefused }
+{}
+
+/// A run ends with a refused file of grants exactly where it is to write, the settings and both tables were read, and the
+/// last file is no legal list of grants.
+pub fn ends_as_grants_file_refused()
+    ensures { EndsAsGrantsFileRefused }
+{}
+
+/// A run ends with a refused grid exactly where it is to search, the settings and both tables were read, and the last file
+/// is no grid's text, or a grid of another numerology or of another number of blocks.
+pub fn ends_as_grid_refused()
+    ensures { EndsAsGridRefused }
+{}
+
+/// A run ends as a fault of reading exactly where the fetch of a file failed and every file before it was read.
+pub fn ends_as_read_fault_of_a_file()
+    ensures { EndsAsReadFaultOfAFile }
+{}
+
+/// A run ends with a file that is too long exactly where a fetch found one so and every file before it was read.
+pub fn ends_as_file_too_long()
+    ensures { EndsAsFileTooLong }
+{}
+
+/// A run ends with no such handset exactly where it is to search, every file was read, and the words name a handset that the
+/// cell does not have.
+pub fn ends_as_no_such()
+    ensures { EndsAsNoSuch }
+{}
+
+/// A run ends with a refused slot exactly where every file was read and the common sets of a handset exceed a limit in the
+/// slot: of any handset of the cell in `write`, of a reported one in `search`.
+pub fn ends_as_slot_refused()
+    ensures { EndsAsSlotRefused }
+{}
+
+/// A run ends with refused grants exactly where it is to write, every file was read, no handset's common sets exceed a limit
+/// in the slot, and one of the grants was refused.
+pub fn ends_as_grants_refused()
+    ensures { EndsAsGrantsRefused }
+{}
+
+/// A run ends as done exactly where every file was read, the common sets of no handset exceed a limit in the slot (in `search`
+/// of no reported one), and in `write` each of the grants was placed, in `search` the cell has a handset that the words name.
+pub fn ends_as_done()
+    ensures { EndsAsDone }
 {}

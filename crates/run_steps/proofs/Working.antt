@@ -105,13 +105,15 @@ raw-read name (Bytes b) bytes e h = h
 raw-read name TooLong bytes e h = cc
 raw-read name Fault bytes e h = cc
 
-checked-misses : {A : Type 0} (check : List ℕ → Result A Refusal) (old new : List Missed) (bytes : List ℕ) (result : Result A Stop) → new ≡ old → IsRead result (checked (check bytes)) → StepMisses old new result
+checked-misses : {A : Type 0} (check : List ℕ → Result A Refusal) (old new : List Missed) (bytes : List ℕ) (result : Result A Stop) → new ≡ old
+    → IsRead result (checked (check bytes)) → StepMisses old new result
 checked-misses check old new bytes (Ok a) same h = same
 checked-misses check old new bytes (Err (Ended o)) same h =
     inl (record { noted = same; says = record { read = checked-read (check bytes) o h; long = checked-long (check bytes) o h } })
 checked-misses check old new bytes (Err OutOfMemory) same h = inl (record { noted = same; says = record { read = λ e. cc; long = λ e. cc } })
 
-pub checked-step : {A : Type 0} (check : List ℕ → Result A Refusal) {name : List ℕ} {old new : ShelfView} {bytes : List ℕ} {result : Result A Stop} → Step raw name old new (Ok bytes) → IsRead result (checked (check bytes)) → Step check name old new result
+pub checked-step : {A : Type 0} (check : List ℕ → Result A Refusal) {name : List ℕ} {old new : ShelfView} {bytes : List ℕ} {result : Result A Stop}
+    → Step raw name old new (Ok bytes) → IsRead result (checked (check bytes)) → Step check name old new result
 checked-step {A} check {name} {old} {new} {bytes} {result} step h =
     let gave : step.gave ≡ Bytes bytes = taken-bytes name step.gave bytes step.is in
     record {
@@ -126,13 +128,15 @@ checked-step {A} check {name} {old} {new} {bytes} {result} step h =
     }
 
 -- a file that was not taken is not checked
-stopped-is : {A : Type 0} (check : List ℕ → Result A Refusal) (name : List ℕ) (gave : Fetched) (stop : Stop) → IsRead {A = List ℕ} (Err stop) (read_as raw name gave) → IsRead {A = A} (Err stop) (read_as check name gave)
+stopped-is : {A : Type 0} (check : List ℕ → Result A Refusal) (name : List ℕ) (gave : Fetched) (stop : Stop) → IsRead {A = List ℕ} (Err stop) (read_as raw name gave)
+    → IsRead {A = A} (Err stop) (read_as check name gave)
 stopped-is check name gave OutOfMemory h = tt
 stopped-is check name (Bytes bytes) (Ended o) h = absurd (cc)
 stopped-is check name TooLong (Ended o) h = ap Err (cc)
 stopped-is check name Fault (Ended o) h = ap Err (cc)
 
-stopped-quiet : {A : Type 0} (check : List ℕ → Result A Refusal) (name : List ℕ) (gave : Fetched) → ReadsWith status.ReadFault (read_as raw name gave) → ReadsWith status.ReadFault (read_as check name gave)
+stopped-quiet : {A : Type 0} (check : List ℕ → Result A Refusal) (name : List ℕ) (gave : Fetched) → ReadsWith status.ReadFault (read_as raw name gave)
+    → ReadsWith status.ReadFault (read_as check name gave)
 stopped-quiet check name (Bytes bytes) h = absurd h
 stopped-quiet check name TooLong h = h
 stopped-quiet check name Fault h = h
@@ -141,7 +145,8 @@ short-as : (A B : Type 0) (stop : Stop) → IsShort {A = A} (Err stop) → IsSho
 short-as A B OutOfMemory h = tt
 short-as A B (Ended o) h = h
 
-pub stopped-step : {A : Type 0} (check : List ℕ → Result A Refusal) {name : List ℕ} {old new : ShelfView} {stop : Stop} → Step {A = List ℕ} raw name old new (Err stop) → Step {A = A} check name old new (Err stop)
+pub stopped-step : {A : Type 0} (check : List ℕ → Result A Refusal) {name : List ℕ} {old new : ShelfView} {stop : Stop} → Step {A = List ℕ} raw name old new (Err stop)
+    → Step {A = A} check name old new (Err stop)
 stopped-step {A} check {name} {old} {new} {stop} step = record {
   gave = step.gave;
   given = step.given;
@@ -158,11 +163,13 @@ stopped : {A : Type 0} (read : Result A Outcome) (next : A → Outcome) (stop : 
 stopped read next OutOfMemory h = tt
 stopped read next (Ended o) h = rw h refl
 
-stop-read : {A : Type 0} (check : List ℕ → Result A Refusal) (name : List ℕ) (gave : Fetched) (stop : Stop) → IsRead {A = A} (Err stop) (read_as check name gave) → (stopped_as stop).status ≡ status.ReadFault → gave ≡ Fault
+stop-read : {A : Type 0} (check : List ℕ → Result A Refusal) (name : List ℕ) (gave : Fetched) (stop : Stop) → IsRead {A = A} (Err stop) (read_as check name gave)
+    → (stopped_as stop).status ≡ status.ReadFault → gave ≡ Fault
 stop-read check name gave OutOfMemory h e = absurd (cc)
 stop-read check name gave (Ended o) h e = read-fault check name gave o h e
 
-stop-long : {A : Type 0} (check : List ℕ → Result A Refusal) (name : List ℕ) (gave : Fetched) (stop : Stop) → IsRead {A = A} (Err stop) (read_as check name gave) → (stopped_as stop).status ≡ status.FileTooLong → (gave ≡ TooLong) × (IsShort {A = A} (Err stop) → ⊥)
+stop-long : {A : Type 0} (check : List ℕ → Result A Refusal) (name : List ℕ) (gave : Fetched) (stop : Stop) → IsRead {A = A} (Err stop) (read_as check name gave)
+    → (stopped_as stop).status ≡ status.FileTooLong → (gave ≡ TooLong) × (IsShort {A = A} (Err stop) → ⊥)
 stop-long check name gave OutOfMemory h e = absurd (cc)
 stop-long check name gave (Ended o) h e = (read-long check name gave o h e, λ s. s)
 
@@ -171,7 +178,8 @@ faulted-outcome (Ok a) next h = absurd h
 faulted-outcome (Err o) next h = h
 
 -- a command that its first reading stops; the files behind it are not fetched
-pub work-stop : {A : Type 0} (next : A → List Fetched → Outcome) {check : List ℕ → Result A Refusal} {name : List ℕ} (names : List (List ℕ)) {old new : ShelfView} {stop : Stop} → Step check name old new (Err stop) → Work (reading check name next) (name ∷ names) old new (Err stop)
+pub work-stop : {A : Type 0} (next : A → List Fetched → Outcome) {check : List ℕ → Result A Refusal} {name : List ℕ} (names : List (List ℕ)) {old new : ShelfView} {stop : Stop}
+    → Step check name old new (Err stop) → Work (reading check name next) (name ∷ names) old new (Err stop)
 unfolding reading
 work-stop {A} next {check} {name} names {old} {new} {stop} step =
     let rest : List Fetched = map (λ n. unread (old.told n)) names in
@@ -198,7 +206,8 @@ not-long check name TooLong a e h = cc
 not-long check name Fault a e h = cc
 
 -- a command whose first reading went well
-pub work-step : {A : Type 0} (next : A → List Fetched → Outcome) {check : List ℕ → Result A Refusal} {name : List ℕ} {names : List (List ℕ)} {old mid new : ShelfView} {a : A} {result : Result Outcome Stop} → Step check name old mid (Ok a) → Work (next a) names mid new result → Work (reading check name next) (name ∷ names) old new result
+pub work-step : {A : Type 0} (next : A → List Fetched → Outcome) {check : List ℕ → Result A Refusal} {name : List ℕ} {names : List (List ℕ)} {old mid new : ShelfView} {a : A} {result : Result Outcome Stop}
+    → Step check name old mid (Ok a) → Work (next a) names mid new result → Work (reading check name next) (name ∷ names) old new result
 unfolding reading
 work-step {A} next {check} {name} {names} {old} {mid} {new} {a} {result} step work =
     record {

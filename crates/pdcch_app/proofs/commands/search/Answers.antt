@@ -27,4 +27,9 @@ returns-in_err-points g c =
 
 pub returns : goal.returns
 returns g c =
-    work-step _ c.in_ok-cell.ensures.step (work-step _ c.in_ok-reliability.ensures.step (work-step _ c.in_ok-input_order.ensures.step (work-step _ c.in_ok-points.ensures.step (work-job (searched c.in_ok-cell.cell (both c.in_ok-reliability.reliability c.in_ok-input_order.input_order) c.in_ok-points.points (handset c.args.words.now)) c.search_text.ensures))))
+    let tables = both c.in_ok-reliability.reliability c.in_ok-input_order.input_order in
+    work-step _ c.in_ok-cell.ensures.step
+    (work-step _ c.in_ok-reliability.ensures.step
+    (work-step _ c.in_ok-input_order.ensures.step
+    (work-step _ c.in_ok-points.ensures.step
+    (work-job (searched c.in_ok-cell.cell tables c.in_ok-points.points (handset c.args.words.now)) c.search_text.ensures))))

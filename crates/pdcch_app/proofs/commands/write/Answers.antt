@@ -26,4 +26,9 @@ returns-in_err-list g c =
 
 pub returns : goal.returns
 returns g c =
-    work-step _ c.in_ok-cell.ensures.step (work-step _ c.in_ok-reliability.ensures.step (work-step _ c.in_ok-input_order.ensures.step (work-step _ c.in_ok-list.ensures.step (work-job (written c.in_ok-cell.cell (both c.in_ok-reliability.reliability c.in_ok-input_order.input_order) c.in_ok-list.list) c.write_text.ensures))))
+    let tables = both c.in_ok-reliability.reliability c.in_ok-input_order.input_order in
+    work-step _ c.in_ok-cell.ensures.step
+    (work-step _ c.in_ok-reliability.ensures.step
+    (work-step _ c.in_ok-input_order.ensures.step
+    (work-step _ c.in_ok-list.ensures.step
+    (work-job (written c.in_ok-cell.cell tables c.in_ok-list.list) c.write_text.ensures))))

@@ -11,11 +11,21 @@ use Rattle.pdcch_app.proofs.writing.write_text.Goals as goal
 
 pub refused_by-requires : goal.refused_by-requires
 refused_by-requires c = fault_named c.args.cell.now c.args.list.now c.in-Err.fault
-    (λ h k x. let P : List Grant → Type 0 = λ gs. (◌≡◌ {A = Result DeskValue DeskFault} (Err c.in-Err.fault) (Err (CommonOver h k x))) ↔ (opened c.args.cell.now c.args.list.now.frame c.args.list.now.slot (length gs) ≡ Err (slot_over h k x)) in subst P c.as_slice-grants.ensures (c.in-Err.ensures.over h k x))
+    (λ h k x.
+    let P : List Grant → Type 0 = λ gs.
+    (◌≡◌ {A = Result DeskValue DeskFault} (Err c.in-Err.fault) (Err (CommonOver h k x)))
+    ↔ (opened c.args.cell.now c.args.list.now.frame c.args.list.now.slot (length gs) ≡ Err (slot_over h k x))
+    in
+    subst P c.as_slice-grants.ensures (c.in-Err.ensures.over h k x))
 
 pub returns-in-Err : goal.returns-in-Err
 returns-in-Err c = fault_ends c.args.cell.now c.args.tables.now c.args.list.now c.in-Err.fault c.refused_by.result
-    (λ h k x. let P : List Grant → Type 0 = λ gs. (◌≡◌ {A = Result DeskValue DeskFault} (Err c.in-Err.fault) (Err (CommonOver h k x))) ↔ (opened c.args.cell.now c.args.list.now.frame c.args.list.now.slot (length gs) ≡ Err (slot_over h k x)) in subst P c.as_slice-grants.ensures (c.in-Err.ensures.over h k x))
+    (λ h k x.
+    let P : List Grant → Type 0 = λ gs.
+    (◌≡◌ {A = Result DeskValue DeskFault} (Err c.in-Err.fault) (Err (CommonOver h k x)))
+    ↔ (opened c.args.cell.now c.args.list.now.frame c.args.list.now.slot (length gs) ≡ Err (slot_over h k x))
+    in
+    subst P c.as_slice-grants.ensures (c.in-Err.ensures.over h k x))
     c.refused_by.ensures
 
 pub returns : goal.returns

@@ -1,0 +1,207 @@
+-- A run ends with a status exactly where the cause of that status is there.
+use Rattle.std.proofs.Common.{◌≡◌, ◌⊎◌, inl, inr, ℕ, suc, true, Option, Some, List, [], ◌∷◌, Ok, String, length, refl, sym, ap, subst, ◌∙◌}
+use Rattle.std.specs.declared.alloc.Global.{Global}
+use Rattle.outside.specs.Views.{ShelfView}
+use Rattle.rrc_settings.specs.declared.settings.RawCell.{RawCell}
+use Rattle.table_files.specs.declared.tables.Tables.{Tables}
+use Rattle.grant_file.specs.declared.grants.GrantList.{GrantList}
+use Rattle.slot_grid.specs.Grid.{GridValue}
+use Rattle.cell_placer.specs.Opened.{opened}
+use Rattle.cell_placer.specs.Placing.{DeskValue, fates}
+use Rattle.run_steps.specs.declared.statuses.Status.{Status}
+use Rattle.run_steps.specs.declared.statuses.Status.TheVariants as ends
+use Rattle.run_steps.specs.Outcome.{Outcome, BadSettings, BadTable, BadGrants, BadGrid, Fetched, Bytes, TooLong, Fault, ended, is_cause, no_memory}
+use Rattle.run_steps.specs.Steps.{AreGiven}
+use Rattle.run_steps.proofs.RunPromises.{ends-with}
+use Rattle.pdcch_app.specs.declared.words.Command.{Command}
+use Rattle.pdcch_app.specs.declared.words.Command.TheVariants.{Write, Search}
+use Rattle.pdcch_app.specs.Causes.{ReadSettings, ReadReliability, ReadTables, ReadGrants, ReadGrid, CameTo, First, Second, Third, Fourth}
+use Rattle.pdcch_app.specs.Causes.{ReliabilityIsFaulty, InputOrderIsFaulty, IsNamed, SomeExceeds, SomeRefused, IsReady, CauseOf}
+use Rattle.pdcch_app.specs.Checks.{settings_of, reliability_of, input_order_of, grants_of, grid_of}
+use Rattle.pdcch_app.specs.Endings.{EndsByItsCause, EndsExactly}
+use Rattle.pdcch_app.specs.Lines.{settings_line, reliability_line, input_order_line, grants_line}
+use Rattle.pdcch_app.specs.Outcomes.{outcome, served}
+use Rattle.pdcch_app.specs.Reporting.{searched}
+use Rattle.pdcch_app.specs.Words.{legal, file, handset, named}
+use Rattle.pdcch_app.specs.Writing.{written}
+use Rattle.pdcch_app.proofs.CausesFound.{Later, after_input_order, after_reliability, after_settings, three, last_of, served_is, cause_of_outcome}
+use Rattle.pdcch_app.proofs.Exceeding.{a_desk, named_is}
+use Rattle.pdcch_app.proofs.FilesRead.{file_read, file_refused, file_missed, missed_status, settings_faulty, reliability_faulty, input_order_faulty, grants_faulty, grid_faulty}
+use Rattle.pdcch_app.proofs.JobsDone.{write_ends, search_ends}
+use Rattle.pdcch_app.proofs.RunPromises.{settings-read, reliability-read, input_order-read, grants-read, grid-read}
+
+-- the outcome of a command, as the three files and what follows
+outcome_is : (words : List (String Global)) (gave : List Fetched) (command : Command) → legal words ≡ Some command
+    → outcome words gave ≡ three (last_of command words) (file words 0) (file words 1) (file words 2) gave
+outcome_is words gave command h = ap (λ c. served c words gave) h ∙ served_is command words gave
+
+-- files that are read are passed on to the next step
+settings_on : (later : Later) (settings reliability input_order : List ℕ) (gave : List Fetched) (cell : RawCell) (rest : List Fetched) → ReadSettings gave cell rest
+    → three later settings reliability input_order gave ≡ after_settings later reliability input_order cell rest
+settings_on later settings reliability input_order gave cell rest read =
+    file_read settings_of settings (after_settings later reliability input_order) gave read.bytes rest cell read.first
+    (settings-read read.bytes read.sound ∙ ap (λ (c : RawCell). Ok c) (sym read.is))
+
+reliability_on : (later : Later) (settings reliability input_order : List ℕ) (gave : List Fetched) (cell : RawCell) (numbers : List ℕ) (rest : List Fetched)
+    → ReadReliability gave cell numbers rest → three later settings reliability input_order gave ≡ after_reliability later input_order cell numbers rest
+reliability_on later settings reliability input_order gave cell numbers rest read =
+    settings_on later settings reliability input_order gave cell (Bytes read.bytes ∷ rest) read.before
+    ∙ file_read reliability_of reliability (after_reliability later input_order cell) (Bytes read.bytes ∷ rest) read.bytes rest numbers refl (reliability-read read.bytes numbers read.is)
+
+tables_on : (later : Later) (settings reliability input_order : List ℕ) (gave : List Fetched) (cell : RawCell) (tables : Tables) (rest : List Fetched) → ReadTables gave cell tables rest
+    → three later settings reliability input_order gave ≡ later cell tables rest
+tables_on later settings reliability input_order gave cell tables rest read =
+    reliability_on later settings reliability input_order gave cell tables.reliability (Bytes read.bytes ∷ rest) read.before
+    ∙ file_read input_order_of input_order (after_input_order later cell tables.reliability) (Bytes read.bytes ∷ rest) read.bytes rest tables.input_order refl
+    (input_order-read read.bytes tables.input_order read.is)
+
+-- the status of an outcome
+abbrev status_in : Outcome → Status
+status_in o = o.status
+
+-- tables that are none end a run
+table_ends : (later : Later) (settings reliability input_order : List ℕ) (gave : List Fetched) → ReliabilityIsFaulty gave ⊎ InputOrderIsFaulty gave
+    → (three later settings reliability input_order gave).status ≡ ends.TableRefused
+table_ends later settings reliability input_order gave (inl f) =
+    ap status_in (settings_on later settings reliability input_order gave f.cell (Bytes f.bytes ∷ f.rest) f.before)
+    ∙ file_refused reliability_of reliability (after_reliability later input_order f.cell) (Bytes f.bytes ∷ f.rest) f.bytes f.rest BadTable (reliability_line f.fault) refl
+    (reliability_faulty f.bytes f.fault f.found)
+table_ends later settings reliability input_order gave (inr f) =
+    ap status_in (reliability_on later settings reliability input_order gave f.cell f.numbers (Bytes f.bytes ∷ f.rest) f.before)
+    ∙ file_refused input_order_of input_order (after_input_order later f.cell f.numbers) (Bytes f.bytes ∷ f.rest) f.bytes f.rest BadTable (input_order_line f.fault) refl
+    (input_order_faulty f.bytes f.fault f.found)
+
+-- so does a fetch that gave no bytes
+last_missed : (command : Command) (words : List (String Global)) (cell : RawCell) (tables : Tables) (entry : Fetched) (status : Status) → missed_status entry ≡ Some status
+    → (last_of command words cell tables (entry ∷ [])).status ≡ status
+last_missed Write words cell tables entry status m = file_missed (grants_of cell) (file words 3) (λ list _. ended (written cell tables list)) (entry ∷ []) entry [] status m refl
+last_missed Search words cell tables entry status m =
+    file_missed (grid_of cell) (file words 3) (λ points _. ended (searched cell tables points (handset words))) (entry ∷ []) entry [] status m refl
+
+missed_ends : (command : Command) (words : List (String Global)) (settings reliability input_order : List ℕ) (gave : List Fetched) (entry : Fetched) (status : Status)
+    → missed_status entry ≡ Some status → CameTo gave entry → (three (last_of command words) settings reliability input_order gave).status ≡ status
+missed_ends command words settings reliability input_order gave entry status m (First rest e) =
+    file_missed settings_of settings (after_settings (last_of command words) reliability input_order) gave entry rest status m e
+missed_ends command words settings reliability input_order gave entry status m (Second cell rest read) =
+    ap status_in (settings_on (last_of command words) settings reliability input_order gave cell (entry ∷ rest) read)
+    ∙ file_missed reliability_of reliability (after_reliability (last_of command words) input_order cell) (entry ∷ rest) entry rest status m refl
+missed_ends command words settings reliability input_order gave entry status m (Third cell numbers rest read) =
+    ap status_in (reliability_on (last_of command words) settings reliability input_order gave cell numbers (entry ∷ rest) read)
+    ∙ file_missed input_order_of input_order (after_input_order (last_of command words) cell numbers) (entry ∷ rest) entry rest status m refl
+missed_ends command words settings reliability input_order gave entry status m (Fourth cell tables read) =
+    ap status_in (tables_on (last_of command words) settings reliability input_order gave cell tables (entry ∷ []) read) ∙ last_missed command words cell tables entry status m
+
+-- the outcome where the tables are read
+outcome_on : (words : List (String Global)) (gave : List Fetched) (command : Command) (cell : RawCell) (tables : Tables) (rest : List Fetched)
+    → legal words ≡ Some command → ReadTables gave cell tables rest → outcome words gave ≡ last_of command words cell tables rest
+outcome_on words gave command cell tables rest h read =
+    outcome_is words gave command h ∙ tables_on (last_of command words) (file words 0) (file words 1) (file words 2) gave cell tables rest read
+
+-- where the grants are read too
+write_on : (words : List (String Global)) (gave : List Fetched) (cell : RawCell) (tables : Tables) (list : GrantList) → legal words ≡ Some Write → ReadGrants gave cell tables list
+    → outcome words gave ≡ ended (written cell tables list)
+write_on words gave cell tables list h read =
+    outcome_on words gave Write cell tables (Bytes read.bytes ∷ []) h read.before
+    ∙ file_read (grants_of cell) (file words 3) (λ l _. ended (written cell tables l)) (Bytes read.bytes ∷ []) read.bytes [] list refl
+    (grants-read cell read.bytes read.sound ∙ ap (λ (l : GrantList). Ok l) (sym read.is))
+
+-- and where the grid is
+search_on : (words : List (String Global)) (gave : List Fetched) (cell : RawCell) (tables : Tables) (points : GridValue) → legal words ≡ Some Search → ReadGrid gave cell tables points
+    → outcome words gave ≡ ended (searched cell tables points (handset words))
+search_on words gave cell tables points h read =
+    outcome_on words gave Search cell tables (Bytes read.bytes ∷ []) h read.before
+    ∙ file_read (grid_of cell) (file words 3) (λ p _. ended (searched cell tables p (handset words))) (Bytes read.bytes ∷ []) read.bytes [] points refl
+    (grid-read cell read.bytes points read.is read.mu read.blocks)
+
+-- a handset that is served by its name has it
+served_by_name : (cell : RawCell) (frame slot : ℕ) (sought : Option (List ℕ)) (name : List ℕ) → sought ≡ Some name → SomeExceeds cell sought frame slot → IsNamed cell name
+served_by_name cell frame slot sought name e some =
+    let here : SomeExceeds cell (Some name) frame slot = subst (λ (o : Option (List ℕ)). SomeExceeds cell o frame slot) e some in
+    named_is cell name here.handset here.served
+
+-- a desk of the slot is the one desk of it
+desk_is : (words : List (String Global)) (gave : List Fetched) (list : GrantList) (desk other : DeskValue) (ready : IsReady words gave list desk)
+    → opened ready.cell list.frame list.slot (length list.grants) ≡ Ok other → other ≡ desk
+desk_is words gave list desk other ready e = let both_are = sym e ∙ ready.desk_is in cc
+
+-- each cause ends the run with its status
+status_by : (words : List (String Global)) (gave : List Fetched) (status : Status) → CauseOf status words gave → (outcome words gave).status ≡ status
+status_by words gave ends.Usage c = rw c refl
+status_by words gave ends.SettingsRefused c =
+    ap status_in (outcome_is words gave c.command c.legal_is)
+    ∙ file_refused settings_of (file words 0) (after_settings (last_of c.command words) (file words 1) (file words 2)) gave c.bytes c.rest BadSettings (settings_line c.fault) c.first
+    (settings_faulty c.bytes c.fault c.found)
+status_by words gave ends.TableRefused c =
+    ap status_in (outcome_is words gave c.command c.legal_is) ∙ table_ends (last_of c.command words) (file words 0) (file words 1) (file words 2) gave c.table
+status_by words gave ends.GrantsFileRefused c =
+    ap status_in (outcome_on words gave Write c.cell c.tables (Bytes c.bytes ∷ []) c.legal_is c.before)
+    ∙ file_refused (grants_of c.cell) (file words 3) (λ list _. ended (written c.cell c.tables list)) (Bytes c.bytes ∷ []) c.bytes [] BadGrants (grants_line c.fault) refl
+    (grants_faulty c.cell c.bytes c.fault c.found)
+status_by words gave ends.GridRefused c =
+    let faulty = grid_faulty c.cell c.bytes c.found in
+    ap status_in (outcome_on words gave Search c.cell c.tables (Bytes c.bytes ∷ []) c.legal_is c.before)
+    ∙ file_refused (grid_of c.cell) (file words 3) (λ points _. ended (searched c.cell c.tables points (handset words))) (Bytes c.bytes ∷ []) c.bytes [] BadGrid faulty.0 refl faulty.1
+status_by words gave ends.ReadFault c =
+    ap status_in (outcome_is words gave c.command c.legal_is) ∙ missed_ends c.command words (file words 0) (file words 1) (file words 2) gave Fault ends.ReadFault refl c.file
+status_by words gave ends.FileTooLong c =
+    ap status_in (outcome_is words gave c.command c.legal_is) ∙ missed_ends c.command words (file words 0) (file words 1) (file words 2) gave TooLong ends.FileTooLong refl c.file
+status_by words gave ends.NoSuch c =
+    ap status_in (search_on words gave c.cell c.tables c.points c.legal_is c.read)
+    ∙ search_ends (λ status. status ≡ ends.NoSuch) c.cell c.tables c.points (handset words) (λ name e unknown. refl)
+    (λ some. absurd (c.unknown (served_by_name c.cell c.points.frame c.points.slot (handset words) c.name c.named some)))
+    (λ known none. absurd (c.unknown (known c.name c.named)))
+status_by words gave ends.SlotRefused (inl c) =
+    ap status_in (write_on words gave c.cell c.tables c.list c.legal_is c.read)
+    ∙ write_ends (λ status. status ≡ ends.SlotRefused) c.cell c.tables c.list (λ over. refl)
+    (λ desk d some. absurd (a_desk c.cell c.list.frame c.list.slot (length c.list.grants) desk d c.over))
+    (λ desk d none. absurd (a_desk c.cell c.list.frame c.list.slot (length c.list.grants) desk d c.over))
+status_by words gave ends.SlotRefused (inr c) =
+    ap status_in (search_on words gave c.cell c.tables c.points c.legal_is c.read)
+    ∙ search_ends (λ status. status ≡ ends.SlotRefused) c.cell c.tables c.points (handset words)
+    (λ name e unknown. absurd (unknown (served_by_name c.cell c.points.frame c.points.slot (handset words) name e c.over))) (λ over. refl)
+    (λ known none. absurd (none c.over))
+status_by words gave ends.GrantsRefused c =
+    ap status_in (write_on words gave c.ready.cell c.ready.tables c.list c.ready.legal_is c.ready.read)
+    ∙ write_ends (λ status. status ≡ ends.GrantsRefused) c.ready.cell c.ready.tables c.list
+    (λ over. absurd (a_desk c.ready.cell c.list.frame c.list.slot (length c.list.grants) c.desk c.ready.desk_is over)) (λ desk d some. refl)
+    (λ desk d none. absurd (none (subst (λ (x : DeskValue). SomeRefused (fates x.ledger c.list.grants)) (sym (desk_is words gave c.list c.desk desk c.ready d)) c.some)))
+status_by words gave ends.Done (inl c) =
+    ap status_in (write_on words gave c.ready.cell c.ready.tables c.list c.ready.legal_is c.ready.read)
+    ∙ write_ends (λ status. status ≡ ends.Done) c.ready.cell c.ready.tables c.list
+    (λ over. absurd (a_desk c.ready.cell c.list.frame c.list.slot (length c.list.grants) c.desk c.ready.desk_is over))
+    (λ desk d some. absurd (c.none (subst (λ (x : DeskValue). SomeRefused (fates x.ledger c.list.grants)) (desk_is words gave c.list c.desk desk c.ready d) some))) (λ desk d none. refl)
+status_by words gave ends.Done (inr c) =
+    ap status_in (search_on words gave c.cell c.tables c.points c.legal_is c.read)
+    ∙ search_ends (λ status. status ≡ ends.Done) c.cell c.tables c.points (handset words) (λ name e unknown. absurd (unknown (c.known name e)))
+    (λ over. absurd (c.within over)) (λ known none. refl)
+status_by words gave ends.WriteFault c = absurd c
+status_by words gave ends.NoMemory c = absurd c
+
+pub ended_by_its_cause : EndsByItsCause
+ended_by_its_cause words gave status l = (λ e. subst (λ (s : Status). CauseOf s words gave) e (cause_of_outcome words gave l), λ c. status_by words gave status c)
+
+-- one fetch for each name
+as_many : (old new : ShelfView) (names : List (List ℕ)) (gave : List Fetched) → AreGiven old new names gave → length gave ≡ length names
+as_many old new [] [] g = refl
+as_many old new [] (entry ∷ rest) g = absurd g
+as_many old new (name ∷ names) [] g = absurd g
+as_many old new (name ∷ names) (entry ∷ rest) g = ap suc (as_many old new names rest g.1)
+
+-- a run that ends with a status that the words and the files decide ends with that of its outcome
+decided : (wanted answer : Outcome) (result status : Status) → is_cause status ≡ true → (answer ≡ wanted) ⊎ (answer ≡ no_memory)
+    → (result ≡ answer.status) ⊎ (result ≡ ends.WriteFault) → result ≡ status → wanted.status ≡ status
+decided wanted answer result status d (inl e) (inl s) r = sym (ap status_in e) ∙ sym s ∙ r
+decided wanted answer result status d (inr e) (inl s) r =
+    let same : ends.NoMemory ≡ status = sym (ap status_in e) ∙ sym s ∙ r in
+    let f : is_cause ends.NoMemory ≡ true = ap is_cause same ∙ d in absurd (let g : ⊥ = cc in g)
+decided wanted answer result status d a (inr s) r =
+    let same : ends.WriteFault ≡ status = sym s ∙ r in
+    let f : is_cause ends.WriteFault ≡ true = ap is_cause same ∙ d in absurd (let g : ⊥ = cc in g)
+
+-- each status that the words and the files decide
+pub ends_exactly : (status : Status) → is_cause status ≡ true → EndsExactly status (CauseOf status)
+ends_exactly status d words old new result oo on eo en ran = record {
+  only = λ e.
+      (ended_by_its_cause words ran.gave status (as_many old new (named words) ran.gave ran.given)).0 (decided (outcome words ran.gave) ran.answer result status d ran.is ran.delivered.status e);
+  always = λ c. ends-with (outcome words ran.gave) ran.answer result status ran.is ran.delivered.status (status_by words ran.gave status c);
+}
