@@ -1,4 +1,5 @@
-//! What is heard of grids that are known from outside: a grid on which a grant was spelled, and what is told where it is damaged.
+//! What is heard at a watch of a grid on which `spell` wrote a grant, and what is told where that grid is damaged. What is expected
+//! comes from outside; the grids do not.
 ghost use Rattle.std.specs.Prelude.{◌≡◌, ◌<◌, All, IfOk, length};
 ghost use Rattle.monitor_plan.specs.Watch.{IsInside, IsSound};
 

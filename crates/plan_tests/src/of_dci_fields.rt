@@ -6,7 +6,7 @@ use dci_fields::{
     FieldFault, FieldList, FieldName, Format, Given, Widths, fdra_of, fitted, has_fields, name_of,
     order_list, pack, raw_list, width_of,
 };
-use std::alloc::Global;
+use std::alloc::{AllocError, Global};
 use std::process::Abort;
 use std::test::Fail;
 
@@ -105,6 +105,45 @@ fn rows_have_the_known_widths(rt: HostRuntime) -> Result<(), Fail> {
     for (draft, format, widths, expected) in LISTS {
         let list = list_of(rt.alloc(), draft, format, widths)?;
         assert!(rt; has_widths(&list, expected));
+    }
+    Ok(())
+}
+
+/// A format, and the words of its rows in order with a space behind each; that of the identifier is empty.
+type WordCase = (Format, &'static str);
+
+const WORDS: [WordCase; 4] = [
+    (Format::F00, " fdra tdra hopping mcs ndi rv harq tpc "),
+    (
+        Format::F10,
+        " fdra tdra vrb mcs ndi rv harq dai tpc pucch timing ",
+    ),
+    (
+        Format::F01,
+        " bwp fdra tdra hopping mcs ndi rv harq dai dai2 tpc sri precoding ports srs csi cbgti ptrs beta dmrs ulsch ",
+    ),
+    (
+        Format::F11,
+        " bwp fdra tdra vrb bundling rate_match zp_csi_rs mcs ndi rv mcs2 ndi2 rv2 harq dai tpc pucch timing ports tci srs cbgti flush dmrs ",
+    ),
+];
+
+/// The words of the rows of a list with a space behind each.
+fn words_in(alloc: Global, list: &FieldList) -> Result<Vec<u8>, AllocError> {
+    let mut words = Vec::new(alloc);
+    for row in list.rows() {
+        words.extend_from_slice(row.name.word())?;
+        words.push(b' ')?;
+    }
+    Ok(words)
+}
+
+#[test]
+fn rows_have_the_known_words(rt: HostRuntime) -> Result<(), Fail> {
+    for (format, expected) in WORDS {
+        let list = list_of(rt.alloc(), &FOUR, format, Widths::Own)?;
+        let words = words_in(rt.alloc(), &list)?;
+        assert_eq!(rt; words.as_slice(), expected.as_bytes());
     }
     Ok(())
 }
