@@ -88,6 +88,13 @@ impl Desk {
     {
         &self.grid
     }
+
+    /// The grid alone. It takes no memory.
+    pub fn into_grid(self) -> Grid
+        ensures { result ≡ self.grid }
+    {
+        self.grid
+    }
 }
 
 /// The desk of a slot, or why there is none.

@@ -25,7 +25,8 @@ below_all test n f =
     let at : i ≡ get_or (range_with_len 0 n) i d = sym (get_or-range_with_len 0 n i d l ∙ omega arith) in
     subst P at (f i l))
 
-one_point : (p q : Point) → is_point p q ≡ true → q ≡ p
+-- two points that pass the test are one
+pub one_point : (p q : Point) → is_point p q ≡ true → q ≡ p
 one_point Empty Empty e = refl
 one_point Empty P00 e = cc
 one_point Empty P01 e = cc
@@ -52,7 +53,7 @@ one_point P11 P01 e = cc
 one_point P11 P10 e = cc
 one_point P11 P11 e = refl
 
-own_point : (p : Point) → is_point p p ≡ true
+pub own_point : (p : Point) → is_point p p ≡ true
 own_point Empty = refl
 own_point P00 = refl
 own_point P01 = refl

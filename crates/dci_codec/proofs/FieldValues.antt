@@ -10,7 +10,8 @@ use Rattle.dci_fields.specs.Payloads.{are_fitting, payload_of}
 use Rattle.dci_fields.proofs.PayloadsOfRows.{payload_parts}
 use Rattle.dci_codec.specs.AllValues.{all_values}
 
-mapped : (f : List ℕ → List ℕ) (xs : List (List ℕ)) (x : List ℕ) → Contains xs x → Contains (map f xs) (f x)
+-- what a function gives of an element is among what it gives of all
+pub mapped : {X Y : Type 0} (f : X → Y) (xs : List X) (x : X) → Contains xs x → Contains (map f xs) (f x)
 mapped f xs x h = (h.0, omega (arith, length-map xs f, h.1), get_or-map f xs h.0 x (f x) h.1 ∙ ap f h.2)
 
 -- what one number of a range gives is among what the range gives

@@ -1,8 +1,7 @@
 -- What a grid spells at a watch: it is found among all spellings, and there is one at most.
-use Rattle.std.proofs.Common.{◌≡◌, ℕ, Bool, true, false, cond, ◌&&◌, List, [], ◌∷◌, Option, Some, None, map, refl, ap, sym, subst, ◌∙◌, arith}
+use Rattle.std.proofs.Common.{◌≡◌, ℕ, Bool, true, false, cond, ◌&&◌, List, [], ◌∷◌, Option, Some, None, map, refl, ap, sym, subst, ◌∙◌}
 use Rattle.std.specs.List.{flat_map, find, Contains}
 use Rattle.std.proofs.lemmas.Bool.{and_parts}
-use Rattle.std.proofs.lemmas.List.{length-map, get_or-map}
 use Rattle.std.proofs.lemmas.List.Elements.{Contains-append_left, Contains-append_right}
 use Rattle.crc_mask.specs.Parity.{masked}
 use Rattle.dci_fields.specs.declared.formats.Format.{Format}
@@ -19,7 +18,7 @@ use Rattle.dci_codec.specs.Hearing.{AreTables, IsCarried, Spells, FindsWhatIsSpe
 use Rattle.dci_codec.specs.Spelling.{Spelling, all_spellings, agrees, carries, spells, spelled}
 use Rattle.dci_codec.proofs.Agreements.{agrees_to, agrees_from, none_some, some_once}
 use Rattle.dci_codec.proofs.Carriers.{carried_once, image_on}
-use Rattle.dci_codec.proofs.FieldValues.{payload_among, find_only}
+use Rattle.dci_codec.proofs.FieldValues.{payload_among, find_only, mapped}
 use Rattle.dci_codec.proofs.WatchLists.{list_width, one_format}
 
 -- a payload that a grid carries, by the test
@@ -75,9 +74,6 @@ spells_once tables grid w s other legal keeps h g =
     ∙ ap (spelling_of other.format)
     (values_once (list_of w s.format) s.format other.format s.values other.values w.size w.size h.payload h.packs
     (let P : Format → Type 0 = λ f. payload_of (list_of w f) other.format other.values w.size ≡ Some h.payload in subst P (sym one) packs))
-
-mapped : {X Y : Type 0} (f : X → Y) (xs : List X) (x : X) → Contains xs x → Contains (map f xs) (f x)
-mapped f xs x h = (h.0, omega (arith, length-map xs f, h.1), get_or-map f xs h.0 x (f x) h.1 ∙ ap f h.2)
 
 abbrev spellings_in : Watch → Format → List Spelling
 spellings_in w format = map (spelling_of format) (all_values (list_of w format))

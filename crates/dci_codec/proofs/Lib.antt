@@ -7,4 +7,7 @@ pub mod Carriers
 pub mod Hearings
 pub mod Readings
 pub mod Stages
+pub mod Searches
+pub mod WatchPlaces
+pub mod OneAnswer
 pub mod Spellings

@@ -9,7 +9,7 @@ use Rattle.dci_fields.specs.GivenValues.{settled, IsFieldFault, IsPayloadOf}
 use Rattle.dci_fields.specs.Payloads.{payload_of}
 use Rattle.dmrs_qpsk.specs.PointsOnGrid.{image_of}
 use Rattle.monitor_plan.specs.declared.watch.Watch.{Watch}
-use Rattle.monitor_plan.specs.Watch.{fits, list_of, IsCarrying, IsSound, IsInside}
+use Rattle.monitor_plan.specs.Watch.{fits, list_of, IsCarrying, IsInside}
 use Rattle.polar_chain.specs.CodeShape.{CodeShape}
 use Rattle.slot_grid.specs.Grid.{GridValue}
 use Rattle.slot_grid.specs.Image.{Agrees, overwritten}

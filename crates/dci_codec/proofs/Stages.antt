@@ -258,7 +258,7 @@ silent_exactly tables grid w number result legal keeps told s = (
 )
 
 -- what is spelled is heard
-heard_from : (tables : Tables) (grid : GridValue) (w : Watch) (number : ℕ) (s : Spelling) → Spells tables grid w s → IsHeard tables grid w number (heard_of w number s)
+pub heard_from : (tables : Tables) (grid : GridValue) (w : Watch) (number : ℕ) (s : Spelling) → Spells tables grid w s → IsHeard tables grid w number (heard_of w number s)
 heard_from tables grid w number s g = record { number_is = refl; values = s.values; spells = g; shows = refl }
 
 err_not_ok : (s : Silence) (h : Heard) → ◌≡◌ {A = Result Heard Silence} (Err s) (Ok h) → ⊥

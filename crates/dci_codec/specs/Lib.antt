@@ -5,5 +5,6 @@ pub mod Formats
 pub mod Spelling
 pub mod Hearing
 pub mod Silences
+pub mod Answer
 pub mod Spelled
 pub mod Equality

@@ -6,6 +6,7 @@ ghost use Rattle.dci_fields.specs.declared.values.FieldValue.{FieldValue};
 ghost use Rattle.monitor_plan.specs.Watch.{fits, list_of, IsCarrying, IsInside, IsSound};
 ghost use Rattle.dci_codec.specs.declared.heard.Heard.{Heard};
 ghost use Rattle.dci_codec.specs.declared.silence.Silence.{Silence};
+ghost use Rattle.dci_codec.specs.Answer.{answer_at};
 ghost use Rattle.dci_codec.specs.Hearing.{AreTables, IsHeard, IsReadAs, heard_at};
 ghost use Rattle.dci_codec.specs.Silences.{IsAnswer, IsPayloadAnswer, IsSilence};
 
@@ -30,6 +31,7 @@ pub fn hear(tables: &Tables, watch: &Watch, number: u32, grid: &Grid) -> Result<
     ensures heard { (h : Heard) → (result ≡ Ok h) ↔ IsHeard tables.now grid.now watch.now number h }
     ensures silent { (s : Silence) → (result ≡ Err s) ↔ IsSilence tables.now grid.now watch.now s }
     ensures found { result_ok result ≡ heard_at tables.now grid.now watch.now number }
+    ensures answer { result ≡ answer_at tables.now grid.now watch.now number }
 {
     hear_fields(tables, watch, number, grid)
 }

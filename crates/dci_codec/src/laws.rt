@@ -1,5 +1,6 @@
 //! What holds of all spellings and of what is heard: laws over the definitions that the contracts of `spell` and `hear`
 //! name, as the contracts of functions with nothing to do.
+ghost use Rattle.dci_codec.specs.Answer.{TellsTheAnswer};
 ghost use Rattle.dci_codec.specs.Hearing.{FindsWhatIsSpelled};
 ghost use Rattle.dci_codec.specs.Spelled.{HearsWhatWasSpelled};
 
@@ -11,4 +12,9 @@ pub fn finds_what_is_spelled()
 /// What was spelled at a watch is heard there, with the shown values among those of all rows.
 pub fn hears_what_was_spelled()
     ensures { HearsWhatWasSpelled }
+{}
+
+/// The answer at a watch as a function is the one that the stages of hearing tell, and the only one.
+pub fn tells_the_answer()
+    ensures { TellsTheAnswer }
 {}

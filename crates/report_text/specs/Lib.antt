@@ -1,3 +1,4 @@
 pub mod Head
 pub mod Report
+pub mod Explain
 pub mod Refusal

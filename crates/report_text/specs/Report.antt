@@ -16,13 +16,15 @@ unfoldable pub handset_line : List ℕ → ℕ → ℕ → List ℕ
 handset_line name watches heard =
     codes "handset " ++ name ++ codes " watches " ++ decimal watches ++ codes " heard " ++ decimal heard ++ 10 ∷ []
 
--- what a line begins with: where the watch looks and at which level, its size, the identity that masks the parity there,
--- and the format that was heard
-unfoldable pub heard_start : Watch → Format → List ℕ
-heard_start watch format =
+-- where a watch looks and at which level, and its size
+unfoldable pub watch_text : Watch → List ℕ
+watch_text watch =
     codes "set " ++ decimal watch.set ++ codes " symbol " ++ decimal watch.symbol ++ codes " level " ++ decimal watch.level
     ++ codes " candidate " ++ decimal watch.candidate ++ codes " size " ++ decimal watch.size
-    ++ codes " rnti " ++ hex_word watch.rnti ++ 32 ∷ [] ++ format_word format
+
+-- what a line begins with: the watch, the identity that masks the parity there, and the format that was heard
+unfoldable pub heard_start : Watch → Format → List ℕ
+heard_start watch format = watch_text watch ++ codes " rnti " ++ hex_word watch.rnti ++ 32 ∷ [] ++ format_word format
 
 -- a field and its value, behind a space
 unfoldable pub field_text : FieldValue → List ℕ

@@ -2,7 +2,7 @@
 ghost use Rattle.std.specs.Prelude.{◌<◌, All, length};
 ghost use Rattle.std.specs.List.{flat_map};
 ghost use Rattle.plain_text.specs.Appending.{Appends};
-ghost use Rattle.report_text.specs.Report.{handset_line, field_text, heard_start, heard_line, entry_line, report_text};
+ghost use Rattle.report_text.specs.Report.{handset_line, watch_text, field_text, heard_start, heard_line, entry_line, report_text};
 
 use bits_core::NoMemory;
 use dci_codec::Heard;
@@ -35,15 +35,10 @@ fn push_handset(
     push_pieces(alloc, out, &line)
 }
 
-/// Appends what a line says of its watch and of the format that was heard there.
-#[tactic(auto, unfolding(crate::specs::Report::heard_start))]
-fn push_start(
-    alloc: Global,
-    watch: &Watch,
-    format: Format,
-    out: &mut Vec<u8>,
-) -> Result<(), AllocError>
-    ensures { Appends out.old.items out.new.items (heard_start watch.now format) result }
+/// Appends where a watch looks and at which level, and its size.
+#[tactic(auto, unfolding(crate::specs::Report::watch_text))]
+pub(crate) fn push_watch(alloc: Global, watch: &Watch, out: &mut Vec<u8>) -> Result<(), AllocError>
+    ensures { Appends out.old.items out.new.items (watch_text watch.now) result }
 {
     let pieces = [
         Piece::Text(b"set "),
@@ -56,6 +51,22 @@ fn push_start(
         Piece::Number(u64::from(watch.candidate)),
         Piece::Text(b" size "),
         Piece::Number(u64::from(watch.size)),
+    ];
+    push_pieces(alloc, out, &pieces)
+}
+
+/// Appends what a line says of its watch and of the format that was heard there.
+#[tactic(auto, unfolding(crate::specs::Report::heard_start))]
+fn push_start(
+    alloc: Global,
+    watch: &Watch,
+    format: Format,
+    out: &mut Vec<u8>,
+) -> Result<(), AllocError>
+    ensures { Appends out.old.items out.new.items (heard_start watch.now format) result }
+{
+    push_watch(alloc, watch, out)?;
+    let pieces = [
         Piece::Text(b" rnti "),
         Piece::HexWord(watch.rnti),
         Piece::Text(b" "),
@@ -79,7 +90,11 @@ fn push_field(alloc: Global, field: &FieldValue, out: &mut Vec<u8>) -> Result<()
 }
 
 /// Appends fields with their values, in order.
-fn push_fields(alloc: Global, fields: &[FieldValue], out: &mut Vec<u8>) -> Result<(), AllocError>
+pub(crate) fn push_fields(
+    alloc: Global,
+    fields: &[FieldValue],
+    out: &mut Vec<u8>,
+) -> Result<(), AllocError>
     ensures { Appends out.old.items out.new.items (flat_map field_text fields.now) result }
 {
     for field in fields {

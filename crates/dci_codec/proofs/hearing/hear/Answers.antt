@@ -1,3 +1,4 @@
+use Rattle.dci_codec.proofs.OneAnswer.{answer_is}
 use Rattle.dci_codec.proofs.Stages.{found_exactly, heard_exactly, silent_exactly}
 use Rattle.dci_codec.proofs.hearing.hear.Goals as goal
 
@@ -15,3 +16,8 @@ pub returns-clause-found : goal.returns-clause-found
 returns-clause-found c =
     let told = c.hear_fields.ensures in
     found_exactly c.args.tables.now c.args.grid.now c.args.watch.now c.args.number c.hear_fields.result told.tables c.requires.sound c.requires.inside told.answer
+
+pub returns-clause-answer : goal.returns-clause-answer
+returns-clause-answer c =
+    let told = c.hear_fields.ensures in
+    answer_is c.args.tables.now c.args.grid.now c.args.watch.now c.args.number c.hear_fields.result told.tables c.requires.sound c.requires.inside told.answer

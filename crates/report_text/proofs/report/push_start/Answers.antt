@@ -1,11 +1,11 @@
 use Rattle.std.proofs.Common.{append_assoc}
 use Rattle.std.proofs.lemmas.List.{append-nil}
-use Rattle.plain_text.proofs.Appending.{appends_same}
-use Rattle.report_text.specs.Report.{heard_start}
+use Rattle.plain_text.proofs.Appending.{appends_last}
+use Rattle.report_text.specs.Report.{heard_start, watch_text}
 use Rattle.report_text.proofs.report.push_start.Goals as goal
 
 pub returns : goal.returns
 unfolding heard_start
 returns c =
-    appends_same c.push_pieces.ensures
-    (simp (append_assoc, append-nil, c.from.ensures, c.from-2.ensures, c.from-3.ensures, c.from-4.ensures, c.from-5.ensures, c.word.ensures))
+    appends_last (watch_text c.args.watch.now) c.in_ok-push_watch.ensures.whole c.push_pieces.ensures
+    (simp (append_assoc, append-nil, c.word.ensures))
