@@ -1,0 +1,6 @@
+pub mod LoadCell
+pub mod LoadGrants
+pub mod Jobs
+pub mod Slots
+pub mod Sweep
+pub mod Summary
