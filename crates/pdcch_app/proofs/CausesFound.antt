@@ -1,5 +1,5 @@
 -- Every outcome has the cause of its status.
-use Rattle.std.proofs.Common.{◌≡◌, inl, inr, ℕ, Option, Some, None, List, [], ◌∷◌, String, length, eqb, refl, sym, ap, subst, ◌∙◌, arith}
+use Rattle.std.proofs.Common.{◌≡◌, inl, inr, ℕ, ◌&&◌, true, Option, Some, None, List, [], ◌∷◌, String, length, eqb, refl, sym, ap, subst, ◌∙◌, arith}
 use Rattle.std.specs.declared.alloc.Global.{Global}
 use Rattle.std.specs.String.{string_bytes}
 use Rattle.std.proofs.lemmas.Bool.Decides.{nat_tests}
@@ -8,16 +8,16 @@ use Rattle.table_files.specs.declared.tables.Tables.{Tables}
 use Rattle.run_steps.specs.declared.statuses.Status.{Status}
 use Rattle.run_steps.specs.Outcome.{Outcome, Cause, BadSettings, BadTable, BadGrants, BadGrid, Fetched, Bytes, TooLong, Fault, ended, reading, status_of}
 use Rattle.pdcch_app.specs.declared.words.Command.{Command}
-use Rattle.pdcch_app.specs.declared.words.Command.TheVariants.{Write, Search}
-use Rattle.pdcch_app.specs.Arguments.{arguments_after, are_plain}
-use Rattle.pdcch_app.specs.Causes.{ReadSettings, ReadReliability, ReadTables, ReadGrants, ReadGrid, First, Second, Third, Fourth, CauseOf}
+use Rattle.pdcch_app.specs.declared.words.Command.TheVariants.{Write, Search, Explain}
+use Rattle.pdcch_app.specs.Arguments.{arguments_after, are_formed, are_plain}
+use Rattle.pdcch_app.specs.Causes.{ReadSettings, ReadReliability, ReadTables, ReadGrants, ReadGrid, First, Second, Third, Fourth, TakesGrid, CauseOf, takes_grid}
 use Rattle.pdcch_app.specs.Checks.{settings_of, reliability_of, input_order_of, grants_of, grid_of}
 use Rattle.pdcch_app.specs.Outcomes.{both, outcome, served}
-use Rattle.pdcch_app.specs.Reporting.{searched}
-use Rattle.pdcch_app.specs.Words.{legal, files, file, handset, named, named_by, count_of, command_of, are_as_many}
+use Rattle.pdcch_app.specs.Words.{legal, files, file, named, named_by, count_of, command_of, are_as_many}
 use Rattle.pdcch_app.specs.Writing.{written}
 use Rattle.pdcch_app.proofs.FilesRead.{file_ends, settings_good, settings_bad, reliability_good, reliability_bad, input_order_good, input_order_bad, grants_good, grants_bad, grid_good, grid_bad}
-use Rattle.pdcch_app.proofs.JobsDone.{write_ends, search_ends}
+use Rattle.pdcch_app.proofs.JobsDone.{write_ends}
+use Rattle.pdcch_app.proofs.GridJobs.{grid_job, grid_job_ends}
 use Rattle.pdcch_app.proofs.Spellings.{taken, both as both_pass}
 
 -- what follows the first three files
@@ -40,12 +40,21 @@ three later settings reliability input_order = reading settings_of settings (aft
 -- the last file of a command, and its job
 abbrev pub last_of : Command → List (String Global) → Later
 last_of Write words cell tables = reading (grants_of cell) (file words 3) (λ list _. ended (written cell tables list))
-last_of Search words cell tables = reading (grid_of cell) (file words 3) (λ points _. ended (searched cell tables points (handset words)))
+last_of Search words cell tables = reading (grid_of cell) (file words 3) (λ points _. ended (grid_job Search words cell tables points))
+last_of Explain words cell tables = reading (grid_of cell) (file words 3) (λ points _. ended (grid_job Explain words cell tables points))
 
 pub served_is : (command : Command) (words : List (String Global)) (gave : List Fetched)
     → served (Some command) words gave ≡ three (last_of command words) (file words 0) (file words 1) (file words 2) gave
 served_is Write words gave = refl
 served_is Search words gave = refl
+served_is Explain words gave = refl
+
+-- where it is a grid
+pub last_is_grid : (command : Command) (words : List (String Global)) (cell : RawCell) (tables : Tables) (left : List Fetched) → takes_grid command ≡ true
+    → last_of command words cell tables left ≡ reading (grid_of cell) (file words 3) (λ points _. ended (grid_job command words cell tables points)) left
+last_is_grid Write words cell tables left g = absurd (let f : ⊥ = cc in f)
+last_is_grid Search words cell tables left g = refl
+last_is_grid Explain words cell tables left g = refl
 
 -- the cause of a refusal gives the cause of its status
 abbrev ByStatus : List (String Global) → List Fetched → Status → Type 0
@@ -140,35 +149,44 @@ grants_end words gave cell tables left h read l =
     (λ desk d some. record { list = list; desk = desk; ready = record { legal_is = h; cell = cell; tables = tables; read = all; desk_is = d }; some = some })
     (λ desk d none. inl (record { list = list; desk = desk; ready = record { legal_is = h; cell = cell; tables = tables; read = all; desk_is = d }; none = none })))
 
--- the grid, and what is reported of it
-grid_ends : (words : List (String Global)) (gave : List Fetched) (cell : RawCell) (tables : Tables) (left : List Fetched)
-    → legal words ≡ Some Search → ReadTables gave cell tables left → length left ≡ 1 → CauseOf (last_of Search words cell tables left).status words gave
-grid_ends words gave cell tables left h read l =
-    file_ends (ByStatus words gave) (grid_of cell) (file words 3) (λ points _. ended (searched cell tables points (handset words))) left 0 l
-    (λ rest e n. record { command = Search; legal_is = h; file = Fourth cell tables (at_last gave cell tables left Fault rest read e n) })
-    (λ rest e n. record { command = Search; legal_is = h; file = Fourth cell tables (at_last gave cell tables left TooLong rest read e n) })
+-- the grid, and what is told of it
+grid_ends : (words : List (String Global)) (gave : List Fetched) (command : Command) (cell : RawCell) (tables : Tables) (left : List Fetched)
+    → legal words ≡ Some command → takes_grid command ≡ true → ReadTables gave cell tables left → length left ≡ 1
+    → CauseOf (last_of command words cell tables left).status words gave
+grid_ends words gave command cell tables left h g read l =
+    let takes : TakesGrid words = record { command = command; legal_is = h; grid = g } in
+    subst (λ (o : Outcome). CauseOf o.status words gave) (sym (last_is_grid command words cell tables left g))
+    (file_ends (ByStatus words gave) (grid_of cell) (file words 3) (λ points _. ended (grid_job command words cell tables points)) left 0 l
+    (λ rest e n. record { command = command; legal_is = h; file = Fourth cell tables (at_last gave cell tables left Fault rest read e n) })
+    (λ rest e n. record { command = command; legal_is = h; file = Fourth cell tables (at_last gave cell tables left TooLong rest read e n) })
     (λ bytes rest refusal e n c.
     let bad = grid_bad cell bytes refusal c in
     by_cause words gave BadGrid refusal.cause bad.is
-    (record { legal_is = h; cell = cell; tables = tables; bytes = bytes; before = at_last gave cell tables left (Bytes bytes) rest read e n; found = bad.found }))
+    (record { takes = takes; cell = cell; tables = tables; bytes = bytes; before = at_last gave cell tables left (Bytes bytes) rest read e n; found = bad.found }))
     (λ bytes rest points e n c.
     let good = grid_good cell bytes points c in
     let all : ReadGrid gave cell tables points = record { bytes = bytes; before = at_last gave cell tables left (Bytes bytes) rest read e n; is = good.is; mu = good.mu; blocks = good.blocks } in
-    search_ends (ByStatus words gave) cell tables points (handset words)
-    (λ name e unknown. record { legal_is = h; cell = cell; tables = tables; points = points; read = all; name = name; named = e; unknown = unknown })
-    (λ over. inr (record { legal_is = h; cell = cell; tables = tables; points = points; read = all; over = over }))
-    (λ known none. inr (record { legal_is = h; cell = cell; tables = tables; points = points; read = all; known = known; within = none })))
+    grid_job_ends (ByStatus words gave) words command cell tables points h g
+    (λ name f unknown. inl (record { takes = takes; cell = cell; tables = tables; points = points; read = all; name = name; named = f; unknown = unknown }))
+    (λ over. inr (record { takes = takes; cell = cell; tables = tables; points = points; read = all; over = over }))
+    (λ watches word own asks beyond.
+    inr (record { legal_is = own; cell = cell; tables = tables; points = points; read = all; watches = watches; word = word; asks = asks; beyond = beyond }))
+    (λ own known none. inr (inl (record { legal_is = own; cell = cell; tables = tables; points = points; read = all; known = known; within = none })))
+    (λ watches word own asks below.
+    inr (inr (record { legal_is = own; cell = cell; tables = tables; points = points; read = all; watches = watches; word = word; asks = asks; below = below })))))
 
 count_is : (command : Command) → count_of command ≡ 4
 count_is Write = refl
 count_is Search = refl
+count_is Explain = refl
 
 -- legal words name four files
 four_files : (words : List (String Global)) (command : Command) → legal words ≡ Some command → length (files words) ≡ 4
 four_files [] command h = absurd (let f : ⊥ = cc in f)
 four_files (w ∷ ws) command h =
     let is = taken (command_of (string_bytes w)) (arguments_after None ws) command h in
-    let many = both_pass (are_plain (arguments_after None ws)) (are_as_many command (arguments_after None ws)) is.1 in
+    let list = arguments_after None ws in
+    let many = both_pass (are_plain list && are_formed list) (are_as_many command list) is.1 in
     let count = both_pass (eqb (length (files (w ∷ ws))) (count_of command)) _ many.1 in
     let found : length (files (w ∷ ws)) ≡ count_of command = grind (arith, nat_tests, count.0) in
     found ∙ count_is command
@@ -182,7 +200,10 @@ cause_by words gave (Some Write) h l =
     (λ cell tables rest read n. grants_end words gave cell tables rest h read n)
 cause_by words gave (Some Search) h l =
     three_end words Search gave (last_of Search words) (file words 0) (file words 1) (file words 2) h (l ∙ four_files words Search h)
-    (λ cell tables rest read n. grid_ends words gave cell tables rest h read n)
+    (λ cell tables rest read n. grid_ends words gave Search cell tables rest h refl read n)
+cause_by words gave (Some Explain) h l =
+    three_end words Explain gave (last_of Explain words) (file words 0) (file words 1) (file words 2) h (l ∙ four_files words Explain h)
+    (λ cell tables rest read n. grid_ends words gave Explain cell tables rest h refl read n)
 
 pub cause_of_outcome : (words : List (String Global)) (gave : List Fetched) → length gave ≡ length (named words) → CauseOf (outcome words gave).status words gave
 cause_of_outcome words gave l = cause_by words gave (legal words) refl l

@@ -1,5 +1,5 @@
 -- A run ends with a status exactly where the cause of that status is there.
-use Rattle.std.proofs.Common.{◌≡◌, ◌⊎◌, inl, inr, ℕ, suc, true, Option, Some, List, [], ◌∷◌, Ok, String, length, refl, sym, ap, subst, ◌∙◌}
+use Rattle.std.proofs.Common.{◌≡◌, ◌⊎◌, inl, inr, ℕ, suc, true, Some, List, [], ◌∷◌, Ok, String, length, refl, sym, ap, subst, ◌∙◌}
 use Rattle.std.specs.declared.alloc.Global.{Global}
 use Rattle.outside.specs.Views.{ShelfView}
 use Rattle.rrc_settings.specs.declared.settings.RawCell.{RawCell}
@@ -14,20 +14,20 @@ use Rattle.run_steps.specs.Outcome.{Outcome, BadSettings, BadTable, BadGrants, B
 use Rattle.run_steps.specs.Steps.{AreGiven}
 use Rattle.run_steps.proofs.RunPromises.{ends-with}
 use Rattle.pdcch_app.specs.declared.words.Command.{Command}
-use Rattle.pdcch_app.specs.declared.words.Command.TheVariants.{Write, Search}
+use Rattle.pdcch_app.specs.declared.words.Command.TheVariants.{Write, Search, Explain}
 use Rattle.pdcch_app.specs.Causes.{ReadSettings, ReadReliability, ReadTables, ReadGrants, ReadGrid, CameTo, First, Second, Third, Fourth}
-use Rattle.pdcch_app.specs.Causes.{ReliabilityIsFaulty, InputOrderIsFaulty, IsNamed, SomeExceeds, SomeRefused, IsReady, CauseOf}
+use Rattle.pdcch_app.specs.Causes.{ReliabilityIsFaulty, InputOrderIsFaulty, SomeRefused, IsReady, CauseOf, takes_grid}
 use Rattle.pdcch_app.specs.Checks.{settings_of, reliability_of, input_order_of, grants_of, grid_of}
 use Rattle.pdcch_app.specs.Endings.{EndsByItsCause, EndsExactly}
 use Rattle.pdcch_app.specs.Lines.{settings_line, reliability_line, input_order_line, grants_line}
 use Rattle.pdcch_app.specs.Outcomes.{outcome, served}
-use Rattle.pdcch_app.specs.Reporting.{searched}
 use Rattle.pdcch_app.specs.Words.{legal, file, handset, named}
 use Rattle.pdcch_app.specs.Writing.{written}
-use Rattle.pdcch_app.proofs.CausesFound.{Later, after_input_order, after_reliability, after_settings, three, last_of, served_is, cause_of_outcome}
-use Rattle.pdcch_app.proofs.Exceeding.{a_desk, named_is}
+use Rattle.pdcch_app.proofs.CausesFound.{Later, after_input_order, after_reliability, after_settings, three, last_of, served_is, last_is_grid, cause_of_outcome}
+use Rattle.pdcch_app.proofs.Exceeding.{a_desk}
 use Rattle.pdcch_app.proofs.FilesRead.{file_read, file_refused, file_missed, missed_status, settings_faulty, reliability_faulty, input_order_faulty, grants_faulty, grid_faulty}
-use Rattle.pdcch_app.proofs.JobsDone.{write_ends, search_ends}
+use Rattle.pdcch_app.proofs.GridJobs.{grid_job, grid_job_ends, served_by_name, asked_by_name, asked_within, asked_below, one_command}
+use Rattle.pdcch_app.proofs.JobsDone.{write_ends}
 use Rattle.pdcch_app.proofs.RunPromises.{settings-read, reliability-read, input_order-read, grants-read, grid-read}
 
 -- the outcome of a command, as the three files and what follows
@@ -76,7 +76,9 @@ last_missed : (command : Command) (words : List (String Global)) (cell : RawCell
     → (last_of command words cell tables (entry ∷ [])).status ≡ status
 last_missed Write words cell tables entry status m = file_missed (grants_of cell) (file words 3) (λ list _. ended (written cell tables list)) (entry ∷ []) entry [] status m refl
 last_missed Search words cell tables entry status m =
-    file_missed (grid_of cell) (file words 3) (λ points _. ended (searched cell tables points (handset words))) (entry ∷ []) entry [] status m refl
+    file_missed (grid_of cell) (file words 3) (λ points _. ended (grid_job Search words cell tables points)) (entry ∷ []) entry [] status m refl
+last_missed Explain words cell tables entry status m =
+    file_missed (grid_of cell) (file words 3) (λ points _. ended (grid_job Explain words cell tables points)) (entry ∷ []) entry [] status m refl
 
 missed_ends : (command : Command) (words : List (String Global)) (settings reliability input_order : List ℕ) (gave : List Fetched) (entry : Fetched) (status : Status)
     → missed_status entry ≡ Some status → CameTo gave entry → (three (last_of command words) settings reliability input_order gave).status ≡ status
@@ -106,18 +108,13 @@ write_on words gave cell tables list h read =
     (grants-read cell read.bytes read.sound ∙ ap (λ (l : GrantList). Ok l) (sym read.is))
 
 -- and where the grid is
-search_on : (words : List (String Global)) (gave : List Fetched) (cell : RawCell) (tables : Tables) (points : GridValue) → legal words ≡ Some Search → ReadGrid gave cell tables points
-    → outcome words gave ≡ ended (searched cell tables points (handset words))
-search_on words gave cell tables points h read =
-    outcome_on words gave Search cell tables (Bytes read.bytes ∷ []) h read.before
-    ∙ file_read (grid_of cell) (file words 3) (λ p _. ended (searched cell tables p (handset words))) (Bytes read.bytes ∷ []) read.bytes [] points refl
+grid_on : (words : List (String Global)) (gave : List Fetched) (command : Command) (cell : RawCell) (tables : Tables) (points : GridValue) → legal words ≡ Some command
+    → takes_grid command ≡ true → ReadGrid gave cell tables points → outcome words gave ≡ ended (grid_job command words cell tables points)
+grid_on words gave command cell tables points h g read =
+    outcome_on words gave command cell tables (Bytes read.bytes ∷ []) h read.before
+    ∙ last_is_grid command words cell tables (Bytes read.bytes ∷ []) g
+    ∙ file_read (grid_of cell) (file words 3) (λ p _. ended (grid_job command words cell tables p)) (Bytes read.bytes ∷ []) read.bytes [] points refl
     (grid-read cell read.bytes points read.is read.mu read.blocks)
-
--- a handset that is served by its name has it
-served_by_name : (cell : RawCell) (frame slot : ℕ) (sought : Option (List ℕ)) (name : List ℕ) → sought ≡ Some name → SomeExceeds cell sought frame slot → IsNamed cell name
-served_by_name cell frame slot sought name e some =
-    let here : SomeExceeds cell (Some name) frame slot = subst (λ (o : Option (List ℕ)). SomeExceeds cell o frame slot) e some in
-    named_is cell name here.handset here.served
 
 -- a desk of the slot is the one desk of it
 desk_is : (words : List (String Global)) (gave : List Fetched) (list : GrantList) (desk other : DeskValue) (ready : IsReady words gave list desk)
@@ -139,27 +136,39 @@ status_by words gave ends.GrantsFileRefused c =
     (grants_faulty c.cell c.bytes c.fault c.found)
 status_by words gave ends.GridRefused c =
     let faulty = grid_faulty c.cell c.bytes c.found in
-    ap status_in (outcome_on words gave Search c.cell c.tables (Bytes c.bytes ∷ []) c.legal_is c.before)
-    ∙ file_refused (grid_of c.cell) (file words 3) (λ points _. ended (searched c.cell c.tables points (handset words))) (Bytes c.bytes ∷ []) c.bytes [] BadGrid faulty.0 refl faulty.1
+    let t = c.takes in
+    ap status_in (outcome_on words gave t.command c.cell c.tables (Bytes c.bytes ∷ []) t.legal_is c.before
+    ∙ last_is_grid t.command words c.cell c.tables (Bytes c.bytes ∷ []) t.grid)
+    ∙ file_refused (grid_of c.cell) (file words 3) (λ points _. ended (grid_job t.command words c.cell c.tables points)) (Bytes c.bytes ∷ []) c.bytes [] BadGrid faulty.0 refl faulty.1
 status_by words gave ends.ReadFault c =
     ap status_in (outcome_is words gave c.command c.legal_is) ∙ missed_ends c.command words (file words 0) (file words 1) (file words 2) gave Fault ends.ReadFault refl c.file
 status_by words gave ends.FileTooLong c =
     ap status_in (outcome_is words gave c.command c.legal_is) ∙ missed_ends c.command words (file words 0) (file words 1) (file words 2) gave TooLong ends.FileTooLong refl c.file
-status_by words gave ends.NoSuch c =
-    ap status_in (search_on words gave c.cell c.tables c.points c.legal_is c.read)
-    ∙ search_ends (λ status. status ≡ ends.NoSuch) c.cell c.tables c.points (handset words) (λ name e unknown. refl)
+status_by words gave ends.NoSuch (inl c) =
+    let t = c.takes in
+    ap status_in (grid_on words gave t.command c.cell c.tables c.points t.legal_is t.grid c.read)
+    ∙ grid_job_ends (λ status. status ≡ ends.NoSuch) words t.command c.cell c.tables c.points t.legal_is t.grid (λ name e unknown. refl)
     (λ some. absurd (c.unknown (served_by_name c.cell c.points.frame c.points.slot (handset words) c.name c.named some)))
-    (λ known none. absurd (c.unknown (known c.name c.named)))
+    (λ watches word own asks beyond. refl) (λ own known none. absurd (c.unknown (known c.name c.named)))
+    (λ watches word own asks below. absurd (c.unknown (asked_by_name words c.cell c.points watches word c.name c.named asks)))
+status_by words gave ends.NoSuch (inr c) =
+    ap status_in (grid_on words gave Explain c.cell c.tables c.points c.legal_is refl c.read)
+    ∙ grid_job_ends (λ status. status ≡ ends.NoSuch) words Explain c.cell c.tables c.points c.legal_is refl (λ name e unknown. refl)
+    (λ some. absurd (asked_within words c.cell c.points c.watches c.word c.asks some))
+    (λ watches word own asks beyond. refl) (λ own known none. absurd (one_command words own c.legal_is))
+    (λ watches word own asks below. absurd (asked_below words c.cell c.points watches c.watches word c.word asks below c.asks c.beyond))
 status_by words gave ends.SlotRefused (inl c) =
     ap status_in (write_on words gave c.cell c.tables c.list c.legal_is c.read)
     ∙ write_ends (λ status. status ≡ ends.SlotRefused) c.cell c.tables c.list (λ over. refl)
     (λ desk d some. absurd (a_desk c.cell c.list.frame c.list.slot (length c.list.grants) desk d c.over))
     (λ desk d none. absurd (a_desk c.cell c.list.frame c.list.slot (length c.list.grants) desk d c.over))
 status_by words gave ends.SlotRefused (inr c) =
-    ap status_in (search_on words gave c.cell c.tables c.points c.legal_is c.read)
-    ∙ search_ends (λ status. status ≡ ends.SlotRefused) c.cell c.tables c.points (handset words)
+    let t = c.takes in
+    ap status_in (grid_on words gave t.command c.cell c.tables c.points t.legal_is t.grid c.read)
+    ∙ grid_job_ends (λ status. status ≡ ends.SlotRefused) words t.command c.cell c.tables c.points t.legal_is t.grid
     (λ name e unknown. absurd (unknown (served_by_name c.cell c.points.frame c.points.slot (handset words) name e c.over))) (λ over. refl)
-    (λ known none. absurd (none c.over))
+    (λ watches word own asks beyond. absurd (asked_within words c.cell c.points watches word asks c.over)) (λ own known none. absurd (none c.over))
+    (λ watches word own asks below. absurd (asked_within words c.cell c.points watches word asks c.over))
 status_by words gave ends.GrantsRefused c =
     ap status_in (write_on words gave c.ready.cell c.ready.tables c.list c.ready.legal_is c.ready.read)
     ∙ write_ends (λ status. status ≡ ends.GrantsRefused) c.ready.cell c.ready.tables c.list
@@ -170,10 +179,18 @@ status_by words gave ends.Done (inl c) =
     ∙ write_ends (λ status. status ≡ ends.Done) c.ready.cell c.ready.tables c.list
     (λ over. absurd (a_desk c.ready.cell c.list.frame c.list.slot (length c.list.grants) c.desk c.ready.desk_is over))
     (λ desk d some. absurd (c.none (subst (λ (x : DeskValue). SomeRefused (fates x.ledger c.list.grants)) (desk_is words gave c.list c.desk desk c.ready d) some))) (λ desk d none. refl)
-status_by words gave ends.Done (inr c) =
-    ap status_in (search_on words gave c.cell c.tables c.points c.legal_is c.read)
-    ∙ search_ends (λ status. status ≡ ends.Done) c.cell c.tables c.points (handset words) (λ name e unknown. absurd (unknown (c.known name e)))
-    (λ over. absurd (c.within over)) (λ known none. refl)
+status_by words gave ends.Done (inr (inl c)) =
+    ap status_in (grid_on words gave Search c.cell c.tables c.points c.legal_is refl c.read)
+    ∙ grid_job_ends (λ status. status ≡ ends.Done) words Search c.cell c.tables c.points c.legal_is refl (λ name e unknown. absurd (unknown (c.known name e)))
+    (λ over. absurd (c.within over)) (λ watches word own asks beyond. absurd (one_command words c.legal_is own)) (λ own known none. refl)
+    (λ watches word own asks below. refl)
+status_by words gave ends.Done (inr (inr c)) =
+    ap status_in (grid_on words gave Explain c.cell c.tables c.points c.legal_is refl c.read)
+    ∙ grid_job_ends (λ status. status ≡ ends.Done) words Explain c.cell c.tables c.points c.legal_is refl
+    (λ name e unknown. absurd (unknown (asked_by_name words c.cell c.points c.watches c.word name e c.asks)))
+    (λ over. absurd (asked_within words c.cell c.points c.watches c.word c.asks over))
+    (λ watches word own asks beyond. absurd (asked_below words c.cell c.points c.watches watches c.word word c.asks c.below asks beyond)) (λ own known none. refl)
+    (λ watches word own asks below. refl)
 status_by words gave ends.WriteFault c = absurd c
 status_by words gave ends.NoMemory c = absurd c
 

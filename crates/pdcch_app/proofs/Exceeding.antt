@@ -3,6 +3,7 @@ use Rattle.std.proofs.Common.{◌≡◌, ℕ, zero, suc, ◌<◌, Bool, true, fa
 use Rattle.std.specs.List.{range_with_len, position_or_len}
 use Rattle.std.specs.Str.{bytes_eq}
 use Rattle.std.proofs.lemmas.List.FromFn.{length-range_with_len, get_or-range_with_len}
+use Rattle.std.proofs.lemmas.List.Quantifiers.{position-Some}
 use Rattle.std.proofs.lemmas.List.Sums.{passes_at_first, fails_before_first}
 use Rattle.std.proofs.lemmas.Option.{cond_some}
 use Rattle.std.proofs.lemmas.Slice.Eq.{bytes_eq-Decides}
@@ -185,6 +186,10 @@ named_is cell name handset e =
       within = within;
       is = (bytes_eq-Decides (handset_at cell first).name name).0 (passes_at_first (has_name name) cell.handsets no_handset within);
     }
+
+-- and is one of the cell
+pub place_within : (cell : RawCell) (name : List ℕ) (handset : ℕ) → handset_named cell name ≡ Some handset → handset < length cell.handsets
+place_within cell name handset e = (position-Some (has_name name) cell.handsets handset no_handset e).0
 
 none_found : (b : Bool) (handset : ℕ) → cond b (Some handset) None ≡ None → b ≡ false
 none_found true handset e = absurd (let f : ⊥ = cc in f)

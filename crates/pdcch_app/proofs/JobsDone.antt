@@ -1,9 +1,13 @@
 -- The jobs of a run: the cause of each way in which one of them ends it.
-use Rattle.std.proofs.Common.{◌≡◌, ℕ, zero, suc, Bool, true, false, cond, Option, Some, None, List, [], ◌∷◌, Result, Ok, Err, length, slice_get, refl, sym, subst, ◌∙◌}
+use Rattle.std.proofs.Common.{◌≡◌, ℕ, zero, suc, ◌<◌, ◌≤◌, Bool, true, false, cond, ltb, Option, Some, None, List, [], ◌∷◌, Result, Ok, Err, length, slice_get, refl, sym, subst, ◌∙◌, arith}
 use Rattle.std.specs.List.{list_all}
+use Rattle.std.proofs.lemmas.Bool.Decides.{nat_tests}
 use Rattle.rrc_settings.specs.declared.settings.RawCell.{RawCell}
 use Rattle.table_files.specs.declared.tables.Tables.{Tables}
 use Rattle.grant_file.specs.declared.grants.GrantList.{GrantList}
+use Rattle.monitor_budget.specs.declared.allotment.CommonOver.{CommonOver}
+use Rattle.monitor_plan.specs.declared.watch.Watch.{Watch}
+use Rattle.monitor_plan.specs.Planned.{planned}
 use Rattle.slot_grid.specs.Grid.{GridValue}
 use Rattle.cell_placer.specs.declared.refusal.Placed.{Placed}
 use Rattle.cell_placer.specs.declared.refusal.Refusal.{Refusal as GrantRefusal}
@@ -12,7 +16,9 @@ use Rattle.cell_placer.specs.Placing.{DeskValue, fates}
 use Rattle.run_steps.specs.declared.statuses.Status.{Status}
 use Rattle.run_steps.specs.declared.statuses.Status.TheVariants as ends
 use Rattle.run_steps.specs.Outcome.{Refusal, Cause, ended, status_of}
+use Rattle.pdcch_app.specs.Arguments.{number_of}
 use Rattle.pdcch_app.specs.Causes.{IsNamed, SomeExceeds, SomeRefused}
+use Rattle.pdcch_app.specs.Explaining.{explained, explained_by, explained_of, printed, unknown_watch}
 use Rattle.pdcch_app.specs.Reporting.{Listener, handset_named, only_handset, listeners_of, heard_by, heard_of_all, searched}
 use Rattle.pdcch_app.specs.Writing.{is_placed, written_on, written}
 use Rattle.pdcch_app.proofs.Exceeding.{OneExceeds, listeners_exceed, listeners_cause, listeners_within, all_of, some_of_all, one_of_all, some_of_one, one_of_one, no_desk, named_is, none_named}
@@ -95,3 +101,46 @@ search_ends C cell tables points None unknown over none =
 search_ends C cell tables points (Some name) unknown over none =
     named_status C cell tables points name (handset_named cell name) refl (unknown name refl) over
     (λ named_so. none (λ other e. let same : name ≡ other = cc in subst (IsNamed cell) same named_so))
+
+-- the watch of a number is there, or is not
+watch_status : (C : Status → Type 0) (number count : ℕ) (text word : List ℕ) (there : Bool) → ltb number count ≡ there → (count ≤ number → C ends.NoSuch) → (number < count → C ends.Done)
+    → C (ended (cond there (printed text) (Err (unknown_watch word)))).status
+watch_status C number count text word true e unknown none = none (grind (arith, nat_tests))
+watch_status C number count text word false e unknown none = unknown (grind (arith, nat_tests))
+
+-- a handset has its watches, or its common sets exceed a limit
+explained_status : (C : Status → Type 0) (cell : RawCell) (tables : Tables) (points : GridValue) (name word : List ℕ) (handset : ℕ) (plan : Result (List Watch) CommonOver)
+    → handset_named cell name ≡ Some handset → planned cell handset points.frame points.slot ≡ plan
+    → (SomeExceeds cell (Some name) points.frame points.slot → C ends.SlotRefused)
+    → ((watches : List Watch) → planned cell handset points.frame points.slot ≡ Ok watches → length watches ≤ number_of word → C ends.NoSuch)
+    → ((watches : List Watch) → planned cell handset points.frame points.slot ≡ Ok watches → number_of word < length watches → C ends.Done)
+    → C (ended (explained_by cell tables points word handset plan)).status
+explained_status C cell tables points name word handset (Ok watches) e p over unknown none =
+    watch_status C (number_of word) (length watches) _ word (ltb (number_of word) (length watches)) refl (unknown watches p) (none watches p)
+explained_status C cell tables points name word handset (Err found) e p over unknown none = over (record { handset = handset; served = e; over = found; is = p })
+
+-- the cell has the handset, or has none of the name
+asked_status : (C : Status → Type 0) (cell : RawCell) (tables : Tables) (points : GridValue) (name word : List ℕ) (found : Option ℕ) → handset_named cell name ≡ found
+    → ((IsNamed cell name → ⊥) → C ends.NoSuch)
+    → (SomeExceeds cell (Some name) points.frame points.slot → C ends.SlotRefused)
+    → ((handset : ℕ) (watches : List Watch) → handset_named cell name ≡ Some handset → planned cell handset points.frame points.slot ≡ Ok watches → length watches ≤ number_of word
+    → C ends.NoSuch)
+    → ((handset : ℕ) (watches : List Watch) → handset_named cell name ≡ Some handset → planned cell handset points.frame points.slot ≡ Ok watches → number_of word < length watches
+    → C ends.Done)
+    → C (ended (explained_of cell tables points name word found)).status
+asked_status C cell tables points name word None e unnamed over unknown none = unnamed (none_named cell name e)
+asked_status C cell tables points name word (Some handset) e unnamed over unknown none =
+    explained_status C cell tables points name word handset (planned cell handset points.frame points.slot) e refl over
+    (λ watches p l. unknown handset watches e p l) (λ watches p l. none handset watches e p l)
+
+-- the ways in which `explain` ends with a grid that was read
+pub explain_ends : (C : Status → Type 0) (cell : RawCell) (tables : Tables) (points : GridValue) (name word : List ℕ)
+    → ((IsNamed cell name → ⊥) → C ends.NoSuch)
+    → (SomeExceeds cell (Some name) points.frame points.slot → C ends.SlotRefused)
+    → ((handset : ℕ) (watches : List Watch) → handset_named cell name ≡ Some handset → planned cell handset points.frame points.slot ≡ Ok watches → length watches ≤ number_of word
+    → C ends.NoSuch)
+    → ((handset : ℕ) (watches : List Watch) → handset_named cell name ≡ Some handset → planned cell handset points.frame points.slot ≡ Ok watches → number_of word < length watches
+    → C ends.Done)
+    → C (ended (explained cell tables points name word)).status
+unfolding explained
+explain_ends C cell tables points name word = asked_status C cell tables points name word (handset_named cell name) refl

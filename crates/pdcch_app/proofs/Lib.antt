@@ -1,6 +1,10 @@
+pub mod Numbers
 pub mod Usages
 pub mod RunPromises
+pub mod ExplainedWatches
 pub mod Listeners
+pub mod Explainings
+pub mod Asked
 pub mod SlotsOver
 pub mod Placings
 pub mod Spellings
@@ -9,5 +13,6 @@ pub mod Spelled
 pub mod Exceeding
 pub mod FilesRead
 pub mod JobsDone
+pub mod GridJobs
 pub mod CausesFound
 pub mod Endings

@@ -14,14 +14,15 @@ use Rattle.table_files.specs.declared.tables.Tables.{Tables}
 use Rattle.run_steps.specs.declared.stops.Stop.{Stop}
 use Rattle.run_steps.specs.declared.stops.Stop.TheVariants.{OutOfMemory, Ended}
 use Rattle.run_steps.specs.declared.statuses.Status.TheVariants as ends
-use Rattle.run_steps.specs.Steps.{Ends, IsStop}
-use Rattle.run_steps.specs.Outcome.{Outcome, Printed, Refusal, refused, ended}
+use Rattle.run_steps.specs.Steps.{Ends, IsRead, IsStop}
+use Rattle.run_steps.specs.Outcome.{Outcome, Printed, Refusal, checked, refused, ended}
 use Rattle.dci_codec.specs.declared.heard.Heard.{Heard}
 use Rattle.blind_search.specs.Report.{report_of}
 use Rattle.report_text.specs.Head.{head_text}
 use Rattle.report_text.specs.Report.{report_text}
 use Rattle.rrc_settings.specs.HandsetsOfCell.{handset_at, no_handset}
 use Rattle.pdcch_app.specs.Lines.{no_such_handset_line, slot_line}
+use Rattle.pdcch_app.specs.Reporting.{handset_found, unknown_handset, watches_found}
 use Rattle.pdcch_app.specs.Reporting.{Listens, handset_named, only_handset, heard_of_all, searched, Listener, listener_before, listeners_of, listener_text, reported_text, over_limits, heard_by, Appended, IsOver}
 
 -- some handsets were reported in a text: each has a plan
@@ -140,25 +141,61 @@ name_of cell handsets handset d e h =
     ap (λ (hs : List Handset). (get_or hs handset d).name) e
     ∙ ap (λ (x : Handset). x.name) (get_or_default cell.handsets handset d no_handset h)
 
+-- the slot of a grid
+planned_in : (cell : RawCell) (grid : GridValue) (handset frame slot : ℕ) → frame ≡ grid.frame → slot ≡ grid.slot
+    → planned cell handset grid.frame grid.slot ≡ planned cell handset frame slot
+planned_in cell grid handset frame slot f s = sym (ap (λ x. planned cell handset x slot) f ∙ ap (planned cell handset grid.frame) s)
+
+-- the plan of a handset in the slot of a grid is read, or its slot is refused
+pub plan_read : (cell : RawCell) (grid : GridValue) (handset frame slot : ℕ) (watches : List Watch) → frame ≡ grid.frame → slot ≡ grid.slot
+    → planned cell handset frame slot ≡ Ok watches → IsRead {A = List Watch} (Ok watches) (checked (watches_found cell handset (planned cell handset grid.frame grid.slot)))
+plan_read cell grid handset frame slot watches f s e =
+    ap (λ plan. checked (watches_found cell handset plan)) (planned_in cell grid handset frame slot f s ∙ e)
+
+pub plan_refused : (cell : RawCell) (grid : GridValue) (handset frame slot : ℕ) (name : List ℕ) (over : CommonOver) (stop : Stop) → frame ≡ grid.frame → slot ≡ grid.slot
+    → name ≡ (handset_at cell handset).name → planned cell handset frame slot ≡ Err over
+    → IsStop (refused ends.SlotRefused (slot_line name over.candidates over.cces)) stop
+    → IsRead {A = List Watch} (Err stop) (checked (watches_found cell handset (planned cell handset grid.frame grid.slot)))
+plan_refused cell grid handset frame slot name over (Ended o) f s n e h =
+    ap (λ plan. checked (watches_found cell handset plan)) (planned_in cell grid handset frame slot f s ∙ e)
+    ∙ ap (λ (x : Outcome). Err x) (sym (h ∙ ap (λ x. refused ends.SlotRefused (slot_line x over.candidates over.cces)) n))
+plan_refused cell grid handset frame slot name over OutOfMemory f s n e h = tt
+
+-- a plan that was read is the one of the slot
+pub plan_is : (cell : RawCell) (handset : ℕ) (plan : Result (List Watch) CommonOver) (watches : List Watch) → checked (watches_found cell handset plan) ≡ Ok watches
+    → plan ≡ Ok watches
+plan_is cell handset (Ok others) watches h = let same : others ≡ watches = cc in ap (λ (ws : List Watch). Ok ws) same
+plan_is cell handset (Err over) watches h = absurd (let f : ⊥ = cc in f)
+
+-- or the common sets exceed a limit, and the outcome says so
+pub record SaysOver (cell : RawCell) (handset : ℕ) (plan : Result (List Watch) CommonOver) (outcome : Outcome) : Type 0 where
+  pub over : CommonOver
+  pub plan_is : plan ≡ Err over
+  pub says : outcome ≡ ended (Err (over_limits cell handset over))
+
+pub plan_over : (cell : RawCell) (handset : ℕ) (plan : Result (List Watch) CommonOver) (outcome : Outcome) → checked (watches_found cell handset plan) ≡ Err outcome
+    → SaysOver cell handset plan outcome
+plan_over cell handset (Ok watches) outcome h = absurd (let f : ⊥ = cc in f)
+plan_over cell handset (Err over) outcome h =
+    let same : ended (Err (over_limits cell handset over)) ≡ outcome = cc in record { over = over; plan_is = refl; says = sym same }
+
 -- a handset that has no plan is refused
-pub listens_over : (cell : RawCell) (tables : Tables) (grid : GridValue) (handset frame slot : ℕ) (name text : List ℕ) (over : CommonOver) (stop : Stop)
-    → frame ≡ grid.frame → slot ≡ grid.slot → name ≡ (handset_at cell handset).name → planned cell handset frame slot ≡ Err over
-    → IsStop (refused ends.SlotRefused (slot_line name over.candidates over.cces)) stop → Listens cell tables grid handset text text (Err stop)
-listens_over cell tables grid handset frame slot name text over (Ended o) f s n e h = record {
-  over = over;
-  planned_is = sym (ap (λ x. planned cell handset x slot) f ∙ ap (planned cell handset grid.frame) s) ∙ e;
-  says = h ∙ ap (λ x. refused ends.SlotRefused (slot_line x over.candidates over.cces)) n;
-}
-listens_over cell tables grid handset frame slot name text over OutOfMemory f s n e h = tt
+pub listens_over : (cell : RawCell) (tables : Tables) (grid : GridValue) (handset : ℕ) (text : List ℕ) (stop : Stop)
+    → IsRead {A = List Watch} (Err stop) (checked (watches_found cell handset (planned cell handset grid.frame grid.slot)))
+    → Listens cell tables grid handset text text (Err stop)
+listens_over cell tables grid handset text (Ended o) h =
+    let is = plan_over cell handset (planned cell handset grid.frame grid.slot) o h in
+    record { over = is.over; planned_is = is.plan_is; says = is.says }
+listens_over cell tables grid handset text OutOfMemory h = tt
 
 -- the report of a handset with its plan
-pub appended_from : (cell : RawCell) (tables : Tables) (grid : GridValue) (handset frame slot : ℕ) (watches plan : List Watch) (found : List Heard) (name old new : List ℕ)
-    → frame ≡ grid.frame → slot ≡ grid.slot → name ≡ (handset_at cell handset).name → planned cell handset frame slot ≡ Ok watches
+pub appended_from : (cell : RawCell) (tables : Tables) (grid : GridValue) (handset : ℕ) (watches plan : List Watch) (found : List Heard) (name old new : List ℕ)
+    → name ≡ (handset_at cell handset).name → planned cell handset grid.frame grid.slot ≡ Ok watches
     → plan ≡ watches → found ≡ report_of tables grid watches → new ≡ old ++ report_text name plan found → Appended cell tables grid handset old new
 unfolding listener_text
-appended_from cell tables grid handset frame slot watches plan found name old new f s n e p r t = record {
+appended_from cell tables grid handset watches plan found name old new n e p r t = record {
   watches = watches;
-  planned_is = sym (ap (λ x. planned cell handset x slot) f ∙ ap (planned cell handset grid.frame) s) ∙ e;
+  planned_is = e;
   text =
       t ∙ ap (λ x. old ++ report_text x plan found) n ∙ ap (λ x. old ++ report_text (handset_at cell handset).name x found) p
       ∙ ap (λ x. old ++ report_text (handset_at cell handset).name watches x) r;
@@ -192,23 +229,41 @@ ends_all cell tables grid n result e h =
     let count : n - 0 ≡ length cell.handsets = omega (arith, e) in
     subst P count h
 
+-- a handset that was found by its name
+pub handset_is : (name : List ℕ) (found : Option ℕ) (handset : ℕ) → checked (handset_found name found) ≡ Ok handset → found ≡ Some handset
+handset_is name (Some other) handset h = let same : other ≡ handset = cc in ap (λ (n : ℕ). Some n) same
+handset_is name None handset h = absurd (let f : ⊥ = cc in f)
+
+-- or that there is none
+pub handset_unknown : (name : List ℕ) (found : Option ℕ) (outcome : Outcome) → checked (handset_found name found) ≡ Err outcome
+    → (found ≡ None) × (outcome ≡ ended (Err (unknown_handset name)))
+handset_unknown name (Some other) outcome h = absurd (let f : ⊥ = cc in f)
+handset_unknown name None outcome h = let same : ended (Err (unknown_handset name)) ≡ outcome = cc in (refl, sym same)
+
+pub handset_refused : (name : List ℕ) (stop : Stop) (found : Option ℕ) → None ≡ found → IsStop (refused ends.NoSuch (no_such_handset_line name)) stop
+    → IsRead {A = ℕ} (Err stop) (checked (handset_found name found))
+handset_refused name (Ended o) found e h =
+    sym (ap (λ (x : Option ℕ). checked (handset_found name x)) e) ∙ ap (λ (x : Outcome). Err x) (sym h)
+handset_refused name OutOfMemory found e h = tt
+
 -- the named one
-pub ends_named : (cell : RawCell) (tables : Tables) (grid : GridValue) (name : List ℕ) (handset : ℕ) (result : Result Outcome Stop) → Some handset ≡ handset_named cell name
+pub ends_named : (cell : RawCell) (tables : Tables) (grid : GridValue) (name : List ℕ) (handset : ℕ) (result : Result Outcome Stop)
+    → IsRead (Ok handset) (checked (handset_found name (handset_named cell name)))
     → Ends result (ended (heard_by cell tables grid (listeners_of cell grid.frame grid.slot (range_with_len handset (handset + 1 - handset)))))
     → Ends result (ended (searched cell tables grid (Some name)))
 unfolding searched
-ends_named cell tables grid name handset result e h =
+ends_named cell tables grid name handset result r h =
     let P : ℕ → Type 0 = λ k. Ends result (ended (heard_by cell tables grid (listeners_of cell grid.frame grid.slot (range_with_len handset k)))) in
     let Q : Option ℕ → Type 0 = λ o. Ends result (ended (heard_of_all cell tables grid (only_handset name o))) in
     let count : handset + 1 - handset ≡ 1 = omega arith in
     let one : Q (Some handset) = subst P count h in
-    subst Q e one
+    subst Q (sym (handset_is name (handset_named cell name) handset r)) one
 
 -- no handset has the name
-pub ends_unnamed : (cell : RawCell) (tables : Tables) (grid : GridValue) (name : List ℕ) (stop : Stop) → None ≡ handset_named cell name
-    → IsStop (refused ends.NoSuch (no_such_handset_line name)) stop → Ends (Err stop) (ended (searched cell tables grid (Some name)))
+pub ends_unnamed : (cell : RawCell) (tables : Tables) (grid : GridValue) (name : List ℕ) (stop : Stop)
+    → IsRead {A = ℕ} (Err stop) (checked (handset_found name (handset_named cell name))) → Ends (Err stop) (ended (searched cell tables grid (Some name)))
 unfolding searched
-ends_unnamed cell tables grid name (Ended o) e h =
-    let Q : Option ℕ → Type 0 = λ x. ended (heard_of_all cell tables grid (only_handset name x)) ≡ o in
-    subst Q e (sym h)
-ends_unnamed cell tables grid name OutOfMemory e h = tt
+ends_unnamed cell tables grid name (Ended o) h =
+    let is = handset_unknown name (handset_named cell name) o h in
+    ap (λ (x : Option ℕ). ended (heard_of_all cell tables grid (only_handset name x))) is.0 ∙ sym is.1
+ends_unnamed cell tables grid name OutOfMemory h = tt

@@ -22,7 +22,7 @@ use Rattle.pdcch_app.specs.Words.{file, handset}
 use Rattle.pdcch_app.specs.Writing.{placed_on, written_on, written}
 
 -- a file that its check accepts is passed on to the next step
-went : {A : Type 0} (check : List ℕ → Result A Refusal) (name : List ℕ) (next : A → List Fetched → Outcome) (bytes : List ℕ) (rest : List Fetched) (a : A)
+pub went : {A : Type 0} (check : List ℕ → Result A Refusal) (name : List ℕ) (next : A → List Fetched → Outcome) (bytes : List ℕ) (rest : List Fetched) (a : A)
     → length bytes ≤ limit → check bytes ≡ Ok a → reading check name next (given_of bytes ∷ rest) ≡ next a rest
 unfolding reading
 went check name next bytes rest a h e = rw (given_of-within bytes h, e) refl

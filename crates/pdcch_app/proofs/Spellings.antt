@@ -7,10 +7,10 @@ use Rattle.std.proofs.lemmas.Slice.Eq.{bytes_eq-Decides}
 use Rattle.std.proofs.lemmas.Grind.{common_steps}
 use Rattle.std.proofs.lemmas.Option.{cond_some}
 use Rattle.pdcch_app.specs.declared.arguments.Flag.{Flag}
-use Rattle.pdcch_app.specs.declared.arguments.Flag.TheVariants.{Handset}
+use Rattle.pdcch_app.specs.declared.arguments.Flag.TheVariants.{Handset, Watch}
 use Rattle.pdcch_app.specs.declared.words.Command.{Command}
-use Rattle.pdcch_app.specs.declared.words.Command.TheVariants.{Write, Search}
-use Rattle.pdcch_app.specs.Arguments.{Argument, arguments_after, are_plain, is_plain, flag_of, flag_name, flags}
+use Rattle.pdcch_app.specs.declared.words.Command.TheVariants.{Write, Search, Explain}
+use Rattle.pdcch_app.specs.Arguments.{Argument, arguments_after, are_plain, are_formed, is_plain, flag_of, flag_name, flags}
 use Rattle.pdcch_app.specs.Words.{are_as_many, are_for, legal, command_of, command_name, commands}
 use Rattle.pdcch_app.specs.Spelling.{words_under, spelled, LegalWordsAreSpelled, ReadsWhatIsSpelled}
 
@@ -25,6 +25,7 @@ plain_is_no_flag (b ∷ bs) h = grind (arith, common_steps)
 
 flag_of-name : (flag : Flag) → flag_of (flag_name flag) ≡ Some flag
 flag_of-name Handset = refl
+flag_of-name Watch = refl
 
 -- the arguments where the first word names an option, or none
 abbrev begun : Option Flag → List ℕ → List (String Global) → List Argument
@@ -69,7 +70,7 @@ read_all (a ∷ list) words p e =
     read_on a.flag a.text words (of_all list) list plain.0 e (λ ws rest. read_all list ws plain.1 rest)
 
 plain_if_for : (command : Command) (list : List Argument) → are_for command list ≡ true → are_plain list ≡ true
-plain_if_for command list h = (both (are_plain list) (are_as_many command list) h).0
+plain_if_for command list h = (both (are_plain list) (are_formed list) (both (are_plain list && are_formed list) (are_as_many command list) h).0).0
 
 pub reads_spelled : ReadsWhatIsSpelled
 reads_spelled [] command list p e = search
@@ -94,6 +95,7 @@ command_named w command h = (bytes_eq-Decides w (command_name command)).0 (found
 command_of-name : (command : Command) → command_of (command_name command) ≡ Some command
 command_of-name Write = refl
 command_of-name Search = refl
+command_of-name Explain = refl
 
 -- the name of an option that the words follow
 abbrev before : Option Flag → List (List ℕ)

@@ -1,5 +1,5 @@
 -- Why a run ends as it does: for each status its cause, in words of its own, over the words and what each fetch gave.
-use Rattle.std.specs.Prelude.{◌≡◌, ◌<◌, ◌⊎◌, ℕ, List, [], ◌∷◌, Option, Some, None, Result, Ok, Err, length, slice_get, String}
+use Rattle.std.specs.Prelude.{◌≡◌, ◌<◌, ◌≤◌, ◌⊎◌, ℕ, Bool, true, false, List, [], ◌∷◌, Option, Some, None, Result, Ok, Err, length, slice_get, String}
 use Rattle.std.specs.declared.alloc.Global.{Global}
 use Rattle.rrc_settings.specs.declared.place.SettingsFault.{SettingsFault}
 use Rattle.rrc_settings.specs.declared.settings.RawCell.{RawCell}
@@ -14,6 +14,7 @@ use Rattle.grant_file.specs.declared.place.GrantFault.{GrantFault}
 use Rattle.grid_file.specs.FoundGrid.{reading_of}
 use Rattle.slot_grid.specs.Grid.{GridValue}
 use Rattle.monitor_budget.specs.declared.allotment.CommonOver.{CommonOver}
+use Rattle.monitor_plan.specs.declared.watch.Watch.{Watch}
 use Rattle.monitor_plan.specs.Planned.{planned}
 use Rattle.cell_placer.specs.declared.refusal.Placed.{Placed}
 use Rattle.cell_placer.specs.declared.refusal.Refusal.{Refusal}
@@ -23,9 +24,10 @@ use Rattle.run_steps.specs.declared.statuses.Status.{Status}
 use Rattle.run_steps.specs.declared.statuses.Status.TheVariants as ends
 use Rattle.run_steps.specs.Outcome.{Fetched, Bytes, TooLong, Fault}
 use Rattle.pdcch_app.specs.declared.words.Command.{Command}
-use Rattle.pdcch_app.specs.declared.words.Command.TheVariants.{Write, Search}
+use Rattle.pdcch_app.specs.declared.words.Command.TheVariants.{Write, Search, Explain}
+use Rattle.pdcch_app.specs.Arguments.{number_of}
 use Rattle.pdcch_app.specs.Reporting.{handset_named}
-use Rattle.pdcch_app.specs.Words.{legal, handset}
+use Rattle.pdcch_app.specs.Words.{legal, handset, watch}
 
 -- the first file was read as the settings of a cell; the rest is what the later fetches gave
 pub record ReadSettings (gave : List Fetched) (cell : RawCell) (rest : List Fetched) : Type 0 where
@@ -123,9 +125,21 @@ pub data IsNoGridOf (cell : RawCell) (bytes : List ℕ) : Type 0 where
   OtherMu : (points : GridValue) → reading_of bytes ≡ Ok points → (points.mu ≡ cell.mu → ⊥) → IsNoGridOf cell bytes
   OtherBlocks : (points : GridValue) → reading_of bytes ≡ Ok points → (points.blocks ≡ cell.blocks → ⊥) → IsNoGridOf cell bytes
 
--- the settings and both tables were read for `search`, and the last file is no grid of the cell
+-- the last file of a command is a grid
+abbrev pub takes_grid : Command → Bool
+takes_grid Write = false
+takes_grid Search = true
+takes_grid Explain = true
+
+-- the words are of a command whose last file is a grid: `search` or `explain`
+pub record TakesGrid (words : List (String Global)) : Type 0 where
+  pub command : Command
+  pub legal_is : legal words ≡ Some command
+  pub grid : takes_grid command ≡ true
+
+-- the settings and both tables were read for such a command, and the last file is no grid of the cell
 pub record GridIsFaulty (words : List (String Global)) (gave : List Fetched) : Type 0 where
-  pub legal_is : legal words ≡ Some Search
+  pub takes : TakesGrid words
   pub cell : RawCell
   pub tables : Tables
   pub bytes : List ℕ
@@ -144,9 +158,9 @@ pub record IsNamed (cell : RawCell) (name : List ℕ) : Type 0 where
   pub within : handset < length cell.handsets
   pub is : (handset_at cell handset).name ≡ name
 
--- every file of `search` was read, and the words name a handset that the cell does not have
+-- every file of `search` or of `explain` was read, and the words name a handset that the cell does not have
 pub record HandsetIsUnknown (words : List (String Global)) (gave : List Fetched) : Type 0 where
-  pub legal_is : legal words ≡ Some Search
+  pub takes : TakesGrid words
   pub cell : RawCell
   pub tables : Tables
   pub points : GridValue
@@ -154,6 +168,32 @@ pub record HandsetIsUnknown (words : List (String Global)) (gave : List Fetched)
   pub name : List ℕ
   pub named : handset words ≡ Some name
   pub unknown : IsNamed cell name → ⊥
+
+-- a handset of the cell, of the name that the words give, has these watches in the slot of the grid, and the words give a number
+pub record AsksWatch (words : List (String Global)) (cell : RawCell) (points : GridValue) (watches : List Watch) (word : List ℕ) : Type 0 where
+  pub name : List ℕ
+  pub named : handset words ≡ Some name
+  pub handset : ℕ
+  pub served : handset_named cell name ≡ Some handset
+  pub planned_is : planned cell handset points.frame points.slot ≡ Ok watches
+  pub asked : watch words ≡ Some word
+
+-- every file of `explain` was read, the handset that the words name has its watches in the slot of the grid, and the number that
+-- they give is not below the number of these watches
+pub record WatchIsUnknown (words : List (String Global)) (gave : List Fetched) : Type 0 where
+  pub legal_is : legal words ≡ Some Explain
+  pub cell : RawCell
+  pub tables : Tables
+  pub points : GridValue
+  pub read : ReadGrid gave cell tables points
+  pub watches : List Watch
+  pub word : List ℕ
+  pub asks : AsksWatch words cell points watches word
+  pub beyond : length watches ≤ number_of word
+
+-- the words name a handset that the cell does not have, or a watch that the handset does not have
+abbrev pub IsUnknown : List (String Global) → List Fetched → Type 0
+IsUnknown words gave = HandsetIsUnknown words gave ⊎ WatchIsUnknown words gave
 
 -- a handset that a command works for: the one with the name that is given, or any of the cell where none is given
 abbrev pub IsServed : RawCell → Option (List ℕ) → ℕ → Type 0
@@ -176,9 +216,10 @@ pub record WriteExceeds (words : List (String Global)) (gave : List Fetched) : T
   pub read : ReadGrants gave cell tables list
   pub over : SomeExceeds cell None list.frame list.slot
 
--- every file of `search` was read, and the common sets of a reported handset exceed a limit in the slot of the grid
-pub record SearchExceeds (words : List (String Global)) (gave : List Fetched) : Type 0 where
-  pub legal_is : legal words ≡ Some Search
+-- every file of `search` or of `explain` was read, and the common sets of the handset that the words name, or of any where they
+-- name none, exceed a limit in the slot of the grid
+pub record GridExceeds (words : List (String Global)) (gave : List Fetched) : Type 0 where
+  pub takes : TakesGrid words
   pub cell : RawCell
   pub tables : Tables
   pub points : GridValue
@@ -187,7 +228,7 @@ pub record SearchExceeds (words : List (String Global)) (gave : List Fetched) : 
 
 -- the slot is one in which the common sets of a handset exceed a limit
 abbrev pub SlotIsExceeded : List (String Global) → List Fetched → Type 0
-SlotIsExceeded words gave = WriteExceeds words gave ⊎ SearchExceeds words gave
+SlotIsExceeded words gave = WriteExceeds words gave ⊎ GridExceeds words gave
 
 -- one of the answers to grants is a refusal
 pub record SomeRefused (answers : List (Result Placed Refusal)) : Type 0 where
@@ -228,9 +269,22 @@ pub record SearchIsDone (words : List (String Global)) (gave : List Fetched) : T
   pub known : (name : List ℕ) → handset words ≡ Some name → IsNamed cell name
   pub within : SomeExceeds cell (handset words) points.frame points.slot → ⊥
 
+-- every file of `explain` was read, the handset that the words name has its watches in the slot of the grid, and the number that
+-- they give is that of one of these
+pub record ExplainIsDone (words : List (String Global)) (gave : List Fetched) : Type 0 where
+  pub legal_is : legal words ≡ Some Explain
+  pub cell : RawCell
+  pub tables : Tables
+  pub points : GridValue
+  pub read : ReadGrid gave cell tables points
+  pub watches : List Watch
+  pub word : List ℕ
+  pub asks : AsksWatch words cell points watches word
+  pub below : number_of word < length watches
+
 -- the job was done whole
 abbrev pub JobIsDone : List (String Global) → List Fetched → Type 0
-JobIsDone words gave = WriteIsDone words gave ⊎ SearchIsDone words gave
+JobIsDone words gave = WriteIsDone words gave ⊎ (SearchIsDone words gave ⊎ ExplainIsDone words gave)
 
 -- the cause of each status, with none for those that the words and the files do not decide
 abbrev pub CauseOf : Status → List (String Global) → List Fetched → Type 0
@@ -245,5 +299,5 @@ CauseOf ends.ReadFault words gave = Meets Fault words gave
 CauseOf ends.WriteFault words gave = ⊥
 CauseOf ends.NoMemory words gave = ⊥
 CauseOf ends.FileTooLong words gave = Meets TooLong words gave
-CauseOf ends.NoSuch words gave = HandsetIsUnknown words gave
+CauseOf ends.NoSuch words gave = IsUnknown words gave
 CauseOf ends.SlotRefused words gave = SlotIsExceeded words gave

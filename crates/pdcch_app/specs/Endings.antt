@@ -6,7 +6,7 @@ use Rattle.run_steps.specs.declared.statuses.Status.{Status}
 use Rattle.run_steps.specs.declared.statuses.Status.TheVariants as ends
 use Rattle.run_steps.specs.Outcome.{Fetched, TooLong, Fault}
 use Rattle.run_steps.specs.Ran.{Ran}
-use Rattle.pdcch_app.specs.Causes.{WordsAreFaulty, SettingsAreFaulty, TableIsFaulty, GrantsAreFaulty, GridIsFaulty, Meets, HandsetIsUnknown, SlotIsExceeded, WriteRefusesSome, JobIsDone, CauseOf}
+use Rattle.pdcch_app.specs.Causes.{WordsAreFaulty, SettingsAreFaulty, TableIsFaulty, GrantsAreFaulty, GridIsFaulty, Meets, IsUnknown, SlotIsExceeded, WriteRefusesSome, JobIsDone, CauseOf}
 use Rattle.pdcch_app.specs.Outcomes.{outcome}
 use Rattle.pdcch_app.specs.Words.{named}
 
@@ -53,9 +53,10 @@ EndsAsReadFaultOfAFile = EndsExactly ends.ReadFault (Meets Fault)
 abbrev pub EndsAsFileTooLong : Type 0
 EndsAsFileTooLong = EndsExactly ends.FileTooLong (Meets TooLong)
 
--- with no such handset exactly where every file was read and the cell has none of the name that the words give
+-- with no such handset or watch exactly where every file was read, and the cell has no handset of the name that the words give or
+-- this handset no watch of the number that they give
 abbrev pub EndsAsNoSuch : Type 0
-EndsAsNoSuch = EndsExactly ends.NoSuch HandsetIsUnknown
+EndsAsNoSuch = EndsExactly ends.NoSuch IsUnknown
 
 -- with a refused slot exactly where every file was read and the common sets of a handset exceed a limit in the slot
 abbrev pub EndsAsSlotRefused : Type 0

@@ -4,6 +4,7 @@ pub mod Spelling
 pub mod Lines
 pub mod Checks
 pub mod Reporting
+pub mod Explaining
 pub mod Writing
 pub mod Outcomes
 pub mod Promises

@@ -89,6 +89,10 @@ usage_line = codes "error: usage"
 abbrev pub no_such_handset_line : List ℕ → List ℕ
 no_such_handset_line name = codes "error: no such handset " ++ name
 
+-- the line on a number that no watch has, as it was given
+abbrev pub no_such_watch_line : List ℕ → List ℕ
+no_such_watch_line word = codes "error: no such watch " ++ word
+
 -- the line on a slot in which the common sets of a handset exceed a limit, with both counts
 unfoldable pub slot_line : List ℕ → ℕ → ℕ → List ℕ
 slot_line name candidates cces =

@@ -4,12 +4,14 @@ use Rattle.std.specs.declared.alloc.Global.{Global}
 use Rattle.table_files.specs.declared.tables.Tables.{Tables}
 use Rattle.run_steps.specs.declared.statuses.Status.TheVariants as status
 use Rattle.run_steps.specs.Outcome.{Outcome, Fetched, refused, ended, reading}
+use Rattle.pdcch_app.specs.declared.arguments.Flag.TheVariants.{Handset, Watch}
 use Rattle.pdcch_app.specs.declared.words.Command.{Command}
-use Rattle.pdcch_app.specs.declared.words.Command.TheVariants.{Write, Search}
+use Rattle.pdcch_app.specs.declared.words.Command.TheVariants.{Write, Search, Explain}
 use Rattle.pdcch_app.specs.Checks.{settings_of, reliability_of, input_order_of, grants_of, grid_of}
+use Rattle.pdcch_app.specs.Explaining.{explained}
 use Rattle.pdcch_app.specs.Lines.{usage_line}
 use Rattle.pdcch_app.specs.Reporting.{searched}
-use Rattle.pdcch_app.specs.Words.{legal, file, handset}
+use Rattle.pdcch_app.specs.Words.{legal, file, handset, value}
 use Rattle.pdcch_app.specs.Writing.{written}
 
 -- the two tables of a run
@@ -33,12 +35,22 @@ search_of named settings reliability input_order grid =
     reading input_order_of input_order (λ i.
     reading (grid_of cell) grid (λ points _. ended (searched cell (both r i) points named)))))
 
+-- `explain`: the same files; then the lines of one watch of the handset with a name, by the word for its number
+abbrev pub explain_of : List ℕ → List ℕ → List ℕ → List ℕ → List ℕ → List ℕ → List Fetched → Outcome
+explain_of name word settings reliability input_order grid =
+    reading settings_of settings (λ cell.
+    reading reliability_of reliability (λ r.
+    reading input_order_of input_order (λ i.
+    reading (grid_of cell) grid (λ points _. ended (explained cell (both r i) points name word)))))
+
 -- the outcome of a command
 abbrev pub served : Option Command → List (String Global) → List Fetched → Outcome
 served None words gave = refused status.Usage usage_line
 served (Some Write) words gave = write_of (file words 0) (file words 1) (file words 2) (file words 3) gave
 served (Some Search) words gave =
     search_of (handset words) (file words 0) (file words 1) (file words 2) (file words 3) gave
+served (Some Explain) words gave =
+    explain_of (value words Handset) (value words Watch) (file words 0) (file words 1) (file words 2) (file words 3) gave
 
 -- the outcome of a run with these words, over what each fetch gave
 abbrev pub outcome : List (String Global) → List Fetched → Outcome

@@ -20,10 +20,19 @@ use Rattle.pdcch_app.specs.Lines.{no_such_handset_line, slot_line}
 abbrev pub handset_named : RawCell → List ℕ → Option ℕ
 handset_named cell word = position (λ handset. bytes_eq handset.name word) cell.handsets
 
+-- the refusal of a name that no handset has
+abbrev pub unknown_handset : List ℕ → Refusal
+unknown_handset word = record { cause = NotThere; line = no_such_handset_line word }
+
 -- the handset that was found by its name, or that there is none
+abbrev pub handset_found : List ℕ → Option ℕ → Result ℕ Refusal
+handset_found word (Some handset) = Ok handset
+handset_found word None = Err (unknown_handset word)
+
+-- the same as a list
 abbrev pub only_handset : List ℕ → Option ℕ → Result (List ℕ) Refusal
 only_handset word (Some handset) = Ok (handset ∷ [])
-only_handset word None = Err (record { cause = NotThere; line = no_such_handset_line word })
+only_handset word None = Err (unknown_handset word)
 
 -- the handsets that are reported: the one that the words name, or else all of the cell in order
 abbrev pub reported : RawCell → Option (List ℕ) → Result (List ℕ) Refusal
@@ -33,6 +42,11 @@ reported cell None = Ok (range_with_len 0 (length cell.handsets))
 -- the refusal of a slot in which the common sets of a handset exceed a limit
 abbrev pub over_limits : RawCell → ℕ → CommonOver → Refusal
 over_limits cell handset over = record { cause = OverLimits; line = slot_line (handset_at cell handset).name over.candidates over.cces }
+
+-- the watches of a handset by its plan, or the refusal of its slot
+abbrev pub watches_found : RawCell → ℕ → Result (List Watch) CommonOver → Result (List Watch) Refusal
+watches_found cell handset (Ok watches) = Ok watches
+watches_found cell handset (Err over) = Err (over_limits cell handset over)
 
 -- a handset of the cell with its watches in a slot
 pub record Listener : Type 0 where

@@ -5,21 +5,22 @@ use Rattle.std.specs.Str.{bytes_eq}
 use Rattle.std.specs.String.{string_bytes}
 use Rattle.std.specs.declared.alloc.Global.{Global}
 use Rattle.pdcch_app.specs.declared.arguments.Flag.{Flag}
-use Rattle.pdcch_app.specs.declared.arguments.Flag.TheVariants.{Handset}
+use Rattle.pdcch_app.specs.declared.arguments.Flag.TheVariants.{Handset, Watch}
 use Rattle.pdcch_app.specs.declared.words.Command.{Command}
-use Rattle.pdcch_app.specs.declared.words.Command.TheVariants.{Write, Search}
+use Rattle.pdcch_app.specs.declared.words.Command.TheVariants.{Write, Search, Explain}
 use Rattle.pdcch_app.specs.declared.words.Use.{Use}
-use Rattle.pdcch_app.specs.declared.words.Use.TheVariants.{Never, AtMostOnce}
-use Rattle.pdcch_app.specs.Arguments.{Argument, arguments, arguments_after, flags, texts_under, are_plain}
+use Rattle.pdcch_app.specs.declared.words.Use.TheVariants.{Never, AtMostOnce, Once}
+use Rattle.pdcch_app.specs.Arguments.{Argument, arguments, arguments_after, flags, texts_under, are_plain, are_formed}
 
 -- the name of a command
 abbrev pub command_name : Command → List ℕ
 command_name Write = codes "write"
 command_name Search = codes "search"
+command_name Explain = codes "explain"
 
 -- all commands
 abbrev pub commands : List Command
-commands = Write ∷ Search ∷ []
+commands = Write ∷ Search ∷ Explain ∷ []
 
 -- the command that the first word names
 abbrev pub command_of : List ℕ → Option Command
@@ -29,16 +30,22 @@ command_of word = find (λ command. bytes_eq word (command_name command)) comman
 abbrev pub count_of : Command → ℕ
 count_of Write = 4
 count_of Search = 4
+count_of Explain = 4
 
 -- how often a command takes an option
 abbrev pub use_of : Command → Flag → Use
 use_of Write Handset = Never
+use_of Write Watch = Never
 use_of Search Handset = AtMostOnce
+use_of Search Watch = Never
+use_of Explain Handset = Once
+use_of Explain Watch = Once
 
 -- an option that is to be used so may stand `count` times
 abbrev pub allows : Use → ℕ → Bool
 allows Never count = eqb count 0
 allows AtMostOnce count = leb count 1
+allows Once count = eqb count 1
 
 -- as many arguments under no option as the command takes files, and under each option as it takes it
 abbrev pub are_as_many : Command → List Argument → Bool
@@ -46,9 +53,9 @@ are_as_many command list =
     eqb (length (texts_under None list)) (count_of command)
     && list_all (λ flag. allows (use_of command flag) (length (texts_under (Some flag) list))) flags
 
--- the arguments are plain and as many as the command takes
+-- the arguments are plain, of the forms that their options ask for, and as many as the command takes
 abbrev pub are_for : Command → List Argument → Bool
-are_for command list = are_plain list && are_as_many command list
+are_for command list = are_plain list && are_formed list && are_as_many command list
 
 -- the command, where the words are legal: its name, then arguments for it
 abbrev pub legal : List (String Global) → Option Command
@@ -67,6 +74,14 @@ file words k = get_or (files words) k []
 -- the value of `--handset`, where it stands
 abbrev pub handset : List (String Global) → Option (List ℕ)
 handset words = slice_get (texts_under (Some Handset) (arguments words)) 0
+
+-- the value of `--watch`, where it stands
+abbrev pub watch : List (String Global) → Option (List ℕ)
+watch words = slice_get (texts_under (Some Watch) (arguments words)) 0
+
+-- the value of an option that has to stand
+abbrev pub value : List (String Global) → Flag → List ℕ
+value words flag = get_or (texts_under (Some flag) (arguments words)) 0 []
 
 -- the files that a run may ask for, which are none where the words are not legal
 abbrev pub named_by : Option Command → List (String Global) → List (List ℕ)

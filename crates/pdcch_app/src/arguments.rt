@@ -1,12 +1,16 @@
 //! What each word after a command is for: an option, its value, or an argument of the command itself.
-ghost use Rattle.std.specs.Prelude.{◌≡◌, ◌<◌, ◌+◌, ℕ, List, Some, None, [], ◌∷◌, length, IfSome, MatchOption, slice_get};
-ghost use Rattle.pdcch_app.specs.Arguments.{flag_of, is_plain, are_plain, is_under, arguments_after, texts_under};
+ghost use Rattle.std.specs.Prelude.{◌≡◌, ◌<◌, ◌+◌, ℕ, true, List, Some, None, [], ◌∷◌, length, IfSome, MatchOption, slice_get};
+ghost use Rattle.std.specs.Char.{is_ascii_digit};
+ghost use Rattle.std.specs.List.{list_all};
+ghost use Rattle.pdcch_app.specs.Arguments.{flag_of, is_plain, are_plain, is_under, arguments_after, texts_under, is_number, number_of, is_formed, are_formed};
 
 /// An option: the word after it is its value.
 #[derive(Clone, Copy)]
 pub(crate) enum Flag {
     /// The handset that is asked for.
     Handset,
+    /// The watch that is asked for, by its number.
+    Watch,
 }
 
 /// A word that names no option, with the option whose value it is.
@@ -21,6 +25,8 @@ fn flag_of(word: &[u8]) -> Option<Flag>
 {
     if word == b"--handset".as_slice() {
         Some(Flag::Handset)
+    } else if word == b"--watch".as_slice() {
+        Some(Flag::Watch)
     } else {
         None
     }
@@ -85,6 +91,9 @@ fn is_under(wanted: Option<Flag>, flag: Option<Flag>) -> bool
     match (wanted, flag) {
         (None, None) => true,
         (Some(Flag::Handset), Some(Flag::Handset)) => true,
+        (Some(Flag::Watch), Some(Flag::Watch)) => true,
+        (Some(Flag::Handset), Some(Flag::Watch)) | (Some(Flag::Watch), Some(Flag::Handset)) =>
+            false,
         (None, Some(_)) | (Some(_), None) => false,
     }
 }
@@ -129,6 +138,61 @@ pub(crate) fn are_plain(words: &[String]) -> bool
     let mut left = words;
     while let Some((argument, rest)) = split_first(left) {
         if !is_plain(argument.text.as_bytes()) {
+            return false;
+        }
+        left = rest;
+    }
+    true
+}
+
+/// Whether all bytes are decimal digits.
+fn are_digits(bytes: &[u8]) -> bool
+    ensures { result ≡ list_all is_ascii_digit bytes.now }
+{
+    for byte in bytes {
+        if !byte.is_ascii_digit() {
+            return false;
+        }
+    }
+    true
+}
+
+/// Whether a text is one to nine decimal digits.
+fn is_number(text: &str) -> bool
+    ensures { result ≡ is_number text.now }
+{
+    1 <= text.len() && text.len() <= 9 && are_digits(text.as_bytes())
+}
+
+/// The number that one to nine decimal digits write.
+pub(crate) fn number_of(text: &str) -> u32
+    requires { is_number text.now ≡ true }
+    ensures { result ≡ number_of text.now }
+{
+    match text.parse() {
+        Ok(number) => number,
+        Err(_) => unreachable!(),
+    }
+}
+
+/// Whether an argument is written in the form that its option asks for.
+fn is_formed(flag: Option<Flag>, text: &str) -> bool
+    ensures { result ≡ is_formed (record { flag = flag; text = text.now }) }
+{
+    match flag {
+        None => true,
+        Some(Flag::Handset) => true,
+        Some(Flag::Watch) => is_number(text),
+    }
+}
+
+/// Whether all arguments of the words after a command are written so.
+pub(crate) fn are_formed(words: &[String]) -> bool
+    ensures { result ≡ are_formed (arguments_after None words.now) }
+{
+    let mut left = words;
+    while let Some((argument, rest)) = split_first(left) {
+        if !is_formed(argument.flag, argument.text) {
             return false;
         }
         left = rest;

@@ -1,14 +1,17 @@
 //! The commands, each step by step in the order of its work.
-ghost use Rattle.std.specs.Prelude.{◌≡◌, ◌∷◌, []};
+ghost use Rattle.std.specs.Prelude.{◌≡◌, ◌∷◌, [], Some};
 ghost use Rattle.run_steps.specs.Outcome.{ended};
 ghost use Rattle.run_steps.specs.Steps.{Work, Ends};
-ghost use Rattle.pdcch_app.specs.Outcomes.{write_of, search_of};
+ghost use Rattle.pdcch_app.specs.Explaining.{explained};
+ghost use Rattle.pdcch_app.specs.Outcomes.{write_of, search_of, explain_of};
 ghost use Rattle.pdcch_app.specs.Reporting.{searched};
-ghost use Rattle.pdcch_app.specs.Words.{handset};
+ghost use Rattle.pdcch_app.specs.Words.{legal, handset, value};
 
+use crate::arguments::Flag;
+use crate::explaining::explain_named;
 use crate::files::{grants_at, grid_at, input_order_at, reliability_at, settings_at};
 use crate::searching::{report_all, report_named};
-use crate::words::handset;
+use crate::words::{Command, handset, value};
 use crate::writing::write_text;
 use outside::Shelf;
 use rrc_settings::Cell;
@@ -86,4 +89,53 @@ pub fn search<S: Shelf>(
         input_order,
     };
     search_text(alloc, words, &cell, &tables, &points)
+}
+
+/// The lines of the watch that the words ask for, of the handset that they name.
+fn explain_text(
+    alloc: Global,
+    words: &[String],
+    cell: &Cell,
+    tables: &Tables,
+    grid: &Grid,
+) -> Result<Answer, Stop>
+    requires words { legal words.now ≡ Some Command.Explain }
+    requires mu { grid.now.mu ≡ cell.now.mu }
+    requires blocks { grid.now.blocks ≡ cell.now.blocks }
+    ensures { Ends result (ended (explained cell.now tables.now grid.now (value words.now Flag.Handset) (value words.now Flag.Watch))) }
+{
+    let name = value(words, Flag::Handset);
+    let word = value(words, Flag::Watch);
+    explain_named(alloc, cell, tables, grid, name, word)
+}
+
+/// Tells what the handset of the settings that the words name hears on a grid at the watch that they ask for, or why it hears
+/// nothing there, with the two tables.
+pub fn explain<S: Shelf>(
+    alloc: Global,
+    shelf: &mut S,
+    words: &[String],
+    settings: &str,
+    reliability: &str,
+    input_order: &str,
+    grid: &str,
+) -> Result<Answer, Stop>
+    requires words { legal words.now ≡ Some Command.Explain }
+    requires settings { S.may shelf.old settings.now }
+    requires reliability { S.may shelf.old reliability.now }
+    requires input_order { S.may shelf.old input_order.now }
+    requires grid { S.may shelf.old grid.now }
+    ensures { Work
+        (explain_of (value words.now Flag.Handset) (value words.now Flag.Watch) settings.now reliability.now input_order.now grid.now)
+        (settings.now ∷ reliability.now ∷ input_order.now ∷ grid.now ∷ []) (S.shows shelf.old) (S.shows shelf.new) result }
+{
+    let cell = settings_at(alloc, shelf, settings)?;
+    let reliability = reliability_at(alloc, shelf, reliability)?;
+    let input_order = input_order_at(alloc, shelf, input_order)?;
+    let points = grid_at(alloc, shelf, &cell, grid)?;
+    let tables = Tables {
+        reliability,
+        input_order,
+    };
+    explain_text(alloc, words, &cell, &tables, &points)
 }

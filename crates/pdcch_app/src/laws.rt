@@ -1,7 +1,7 @@
 //! What a run of the program promises: laws over the definitions that the contract of `run` names, as the contracts of
 //! functions with nothing to do. Those of every run, whatever its commands, stand in `run_steps`.
 ghost use Rattle.pdcch_app.specs.Hearing.{HearsWhatIsWritten, ReportsWhatIsSpelled};
-ghost use Rattle.pdcch_app.specs.Promises.{WritesEveryList, SearchesEveryGrid};
+ghost use Rattle.pdcch_app.specs.Promises.{WritesEveryList, SearchesEveryGrid, ExplainsEveryWatch};
 ghost use Rattle.pdcch_app.specs.Endings.{
   EndsByItsCause,
   EndsAsUsage,
@@ -37,6 +37,12 @@ pub fn writes_every_list()
 /// Every legal cell, any two tables and every grid of the cell give the report of what the grid spells.
 pub fn searches_every_grid()
     ensures { SearchesEveryGrid }
+{}
+
+/// Every legal cell, any two tables, every grid of the cell and every watch of a handset of the cell in the grid's slot give the
+/// lines of that watch, with the answer that the stages of hearing tell.
+pub fn explains_every_watch()
+    ensures { ExplainsEveryWatch }
 {}
 
 /// What is printed of each reported handset has just what the grid spells at its watches.
@@ -78,8 +84,8 @@ pub fn ends_as_grants_file_refused()
     ensures { EndsAsGrantsFileRefused }
 {}
 
-/// A run ends with a refused grid exactly where it is to search, the settings and both tables were read, and the last file
-/// is no grid's text, or a grid of another numerology or of another number of blocks.
+/// A run ends with a refused grid exactly where it is to search or to explain, the settings and both tables were read, and the
+/// last file is no grid's text, or a grid of another numerology or of another number of blocks.
 pub fn ends_as_grid_refused()
     ensures { EndsAsGridRefused }
 {}
@@ -94,14 +100,15 @@ pub fn ends_as_file_too_long()
     ensures { EndsAsFileTooLong }
 {}
 
-/// A run ends with no such handset exactly where it is to search, every file was read, and the words name a handset that the
-/// cell does not have.
+/// A run ends with no such handset or watch exactly where every file was read and either it is to search or to explain, and the
+/// words name a handset that the cell does not have; or it is to explain, the handset that they name has its watches in the slot,
+/// and the number that they give is not below the number of these.
 pub fn ends_as_no_such()
     ensures { EndsAsNoSuch }
 {}
 
 /// A run ends with a refused slot exactly where every file was read and the common sets of a handset exceed a limit in the
-/// slot: of any handset of the cell in `write`, of a reported one in `search`.
+/// slot: of any handset of the cell in `write`, of a reported one in `search`, of the named one in `explain`.
 pub fn ends_as_slot_refused()
     ensures { EndsAsSlotRefused }
 {}
@@ -113,7 +120,8 @@ pub fn ends_as_grants_refused()
 {}
 
 /// A run ends as done exactly where every file was read, the common sets of no handset exceed a limit in the slot (in `search`
-/// of no reported one), and in `write` each of the grants was placed, in `search` the cell has a handset that the words name.
+/// of no reported one, in `explain` not those of the named one), and in `write` each of the grants was placed, in `search` the cell
+/// has a handset that the words name, in `explain` it has the handset that they name and this the watch of the number that they give.
 pub fn ends_as_done()
     ensures { EndsAsDone }
 {}

@@ -1,7 +1,8 @@
 //! The lines of the error output on the words, on what a file holds and on a slot, without their line feed.
 ghost use Rattle.std.specs.Prelude.{◌≡◌, ◌++◌, IfOk, OnOk};
 ghost use Rattle.std.specs.List.{flat_map};
-ghost use Rattle.pdcch_app.specs.Lines.{reason_text, step_text, further, place_text, settings_line, table_fault_text, reliability_line, input_order_line, grant_place_text, grants_line, grid_place_line, grid_number_line, usage_line, no_such_handset_line, slot_line};
+ghost use Rattle.pdcch_app.specs.Lines.{reason_text, step_text, further, place_text, settings_line, table_fault_text, reliability_line, input_order_line, grant_place_text, grants_line, grid_place_line, grid_number_line, usage_line, slot_line};
+ghost use Rattle.pdcch_app.specs.Lines.{no_such_handset_line, no_such_watch_line};
 
 use grant_file::{GrantFault, GrantKey, GrantPlace};
 use plain_text::push_number;
@@ -198,6 +199,15 @@ pub fn no_such_handset_line(alloc: Global, name: &str) -> Result<Vec<u8>, AllocE
 {
     let mut text = Vec::from_slice(alloc, b"error: no such handset ")?;
     text.extend_from_slice(name.as_bytes())?;
+    Ok(text)
+}
+
+/// The line on a number that no watch has, as it was given.
+pub fn no_such_watch_line(alloc: Global, word: &str) -> Result<Vec<u8>, AllocError>
+    ensures { IfOk result (λ text. text.items ≡ no_such_watch_line word.now) }
+{
+    let mut text = Vec::from_slice(alloc, b"error: no such watch ")?;
+    text.extend_from_slice(word.as_bytes())?;
     Ok(text)
 }
 

@@ -3,6 +3,7 @@
 
 mod arguments;
 mod commands;
+mod explaining;
 mod files;
 pub mod laws;
 mod lines;

@@ -1,10 +1,12 @@
 //! The report of what handsets hear on a grid.
-ghost use Rattle.std.specs.Prelude.{◌≡◌, ◌-◌, ◌<◌, ◌≤◌, None, Some, length, IfSome};
+ghost use Rattle.std.specs.Prelude.{◌≡◌, ◌-◌, ◌<◌, ◌≤◌, All, None, Some, length, IfOk, IfSome};
 ghost use Rattle.std.specs.List.{range_with_len};
-ghost use Rattle.run_steps.specs.Outcome.{ended, refused};
-ghost use Rattle.run_steps.specs.Steps.{Ends, IsStop};
+ghost use Rattle.monitor_plan.specs.Planned.{planned};
+ghost use Rattle.monitor_plan.specs.Watch.{IsInside};
+ghost use Rattle.run_steps.specs.Outcome.{checked, ended, refused};
+ghost use Rattle.run_steps.specs.Steps.{Ends, IsRead, IsStop};
 ghost use Rattle.pdcch_app.specs.Lines.{no_such_handset_line, slot_line};
-ghost use Rattle.pdcch_app.specs.Reporting.{handset_named, heard_by, listeners_of, searched, Listens};
+ghost use Rattle.pdcch_app.specs.Reporting.{handset_found, handset_named, heard_by, listeners_of, searched, watches_found, Listens};
 
 use crate::lines::{no_such_handset_line, slot_line};
 use blind_search::Searcher;
@@ -45,8 +47,17 @@ pub fn report_named(
     ensures { Ends result (ended (searched cell.now tables.now grid.now (Some name.now))) }
 {
     let _handsets = cell.raw().handsets.as_slice().len();
+    let handset = handset_named(alloc, cell, name)?;
+    report_of(alloc, cell, tables, grid, handset, handset + 1)
+}
+
+/// The handset with this name, by its place in the cell's list.
+pub fn handset_named(alloc: Global, cell: &Cell, name: &str) -> Result<usize, Stop>
+    ensures read { IsRead result (checked (handset_found name.now (handset_named cell.now name.now))) }
+    ensures within { IfOk result (λ handset. handset < length cell.now.handsets) }
+{
     match place_of(cell, name) {
-        Some(handset) => report_of(alloc, cell, tables, grid, handset, handset + 1),
+        Some(handset) => Ok(handset),
         None => Err(no_such_handset(alloc, name)),
     }
 }
@@ -100,18 +111,29 @@ fn push_handset(
     requires blocks { grid.now.blocks ≡ cell.now.blocks }
     ensures { Listens cell.now tables.now grid.now handset text.old.items text.new.items result }
 {
+    let plan = plan_of(alloc, cell, grid, handset)?;
     let name = &cell.raw().handsets.as_slice()[handset].name;
-    let plan = match Plan::of(alloc, cell, handset, grid.frame(), grid.slot()) {
-        Ok(plan) => plan,
-        Err(PlanFault::CommonOver { candidates, cces }) => {
-            return Err(slot_refused(alloc, name, candidates, cces));
-        }
-        Err(PlanFault::NoMemory) => return Err(Stop::OutOfMemory),
-    };
     let mut searcher = Searcher::prepare(alloc, plan)?;
     searcher.search(tables, grid);
     append_report(alloc, name, searcher.plan(), searcher.found(), text)?;
     Ok(())
+}
+
+/// The plan of a handset in the slot of the grid.
+pub fn plan_of(alloc: Global, cell: &Cell, grid: &Grid, handset: usize) -> Result<Plan, Stop>
+    requires handset { handset < length cell.now.handsets }
+    requires mu { grid.now.mu ≡ cell.now.mu }
+    ensures read { IsRead result (checked (watches_found cell.now handset (planned cell.now handset grid.now.frame grid.now.slot))) }
+    ensures inside { IfOk result (λ plan. All (IsInside cell.now.blocks) plan) }
+{
+    match Plan::of(alloc, cell, handset, grid.frame(), grid.slot()) {
+        Ok(plan) => Ok(plan),
+        Err(PlanFault::CommonOver { candidates, cces }) => {
+            let name = &cell.raw().handsets.as_slice()[handset].name;
+            Err(slot_refused(alloc, name, candidates, cces))
+        }
+        Err(PlanFault::NoMemory) => Err(Stop::OutOfMemory),
+    }
 }
 
 /// The refusal of a slot in which the common sets of a handset have so many candidates and CCEs.

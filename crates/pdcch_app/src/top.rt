@@ -8,7 +8,7 @@ ghost use Rattle.run_steps.specs.Outcome.{refused};
 ghost use Rattle.run_steps.specs.Ran.{Ran, Completes};
 ghost use Rattle.run_steps.specs.Steps.{IsStop, Work};
 
-use crate::commands::{search, write};
+use crate::commands::{explain, search, write};
 use crate::lines::usage_line;
 use crate::words::{Command, file, legal};
 use outside::{Shelf, Sink};
@@ -42,6 +42,15 @@ fn answer_of<S: Shelf>(alloc: Global, words: &[String], shelf: &mut S) -> Result
             file(words, 3),
         ),
         Some(Command::Search) => search(
+            alloc,
+            shelf,
+            words,
+            file(words, 0),
+            file(words, 1),
+            file(words, 2),
+            file(words, 3),
+        ),
+        Some(Command::Explain) => explain(
             alloc,
             shelf,
             words,

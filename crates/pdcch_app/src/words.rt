@@ -3,9 +3,10 @@ ghost use Rattle.std.specs.Prelude.{◌≡◌, ◌≢◌, ◌<◌, Some, None, [
 ghost use Rattle.std.specs.Vec.Iter.{into_iter_items};
 ghost use Rattle.std.specs.IoError.{error_kind};
 ghost use Rattle.std.specs.declared.io.ErrorKind.TheVariants.{InvalidData};
-ghost use Rattle.pdcch_app.specs.Words.{legal, files, file, handset, count_of, command_of, use_of, allows};
+ghost use Rattle.pdcch_app.specs.Arguments.{arguments, arguments_after, texts_under};
+ghost use Rattle.pdcch_app.specs.Words.{legal, files, file, handset, value, count_of, command_of, use_of, allows};
 
-use crate::arguments::{Flag, are_plain, count_under, text_under};
+use crate::arguments::{Flag, are_formed, are_plain, count_under, text_under};
 use std::alloc::{AllocError, Global};
 use std::env::Args;
 use std::io;
@@ -18,6 +19,8 @@ pub enum Command {
     Write,
     /// Reports what the handsets hear on a grid.
     Search,
+    /// Tells what is heard at one watch, or why nothing is.
+    Explain,
 }
 
 /// How often a command takes an option.
@@ -25,6 +28,7 @@ pub enum Command {
 enum Use {
     Never,
     AtMostOnce,
+    Once,
 }
 
 impl Command {
@@ -35,6 +39,7 @@ impl Command {
         match self {
             Command::Write => 4,
             Command::Search => 4,
+            Command::Explain => 4,
         }
     }
 
@@ -44,8 +49,19 @@ impl Command {
     {
         match (self, flag) {
             (Command::Write, Flag::Handset) => Use::Never,
+            (Command::Write, Flag::Watch) => Use::Never,
             (Command::Search, Flag::Handset) => Use::AtMostOnce,
+            (Command::Search, Flag::Watch) => Use::Never,
+            (Command::Explain, Flag::Handset) => Use::Once,
+            (Command::Explain, Flag::Watch) => Use::Once,
         }
+    }
+
+    /// Whether an option stands among the words after the command as often as the command takes it.
+    fn takes(&self, flag: Flag, words: &[String]) -> bool
+        ensures { result ≡ allows (use_of self.now flag) (length (texts_under (Some flag) (arguments_after None words.now))) }
+    {
+        self.use_of(flag).allows(count_under(Some(flag), words))
     }
 }
 
@@ -57,6 +73,7 @@ impl Use {
         match self {
             Use::Never => count == 0,
             Use::AtMostOnce => count <= 1,
+            Use::Once => count == 1,
         }
     }
 }
@@ -68,6 +85,8 @@ fn command_of(word: &[u8]) -> Option<Command>
         Some(Command::Write)
     } else if word == b"search".as_slice() {
         Some(Command::Search)
+    } else if word == b"explain".as_slice() {
+        Some(Command::Explain)
     } else {
         None
     }
@@ -82,10 +101,11 @@ pub fn legal(words: &[String]) -> Option<Command>
         return None;
     };
     let command = command_of(first.as_bytes())?;
-    let handset = command.use_of(Flag::Handset);
     if are_plain(rest)
+        && are_formed(rest)
         && count_under(None, rest) == command.count()
-        && handset.allows(count_under(Some(Flag::Handset), rest))
+        && command.takes(Flag::Handset, rest)
+        && command.takes(Flag::Watch, rest)
     {
         Some(command)
     } else {
@@ -115,6 +135,20 @@ pub fn handset(words: &[String]) -> Option<&str>
         return None;
     };
     text_under(Some(Flag::Handset), rest, 0)
+}
+
+/// The value of an option that stands.
+pub fn value(words: &[String], flag: Flag) -> &str
+    requires { 0 < length (texts_under (Some flag) (arguments words.now)) }
+    ensures { result.now ≡ value words.now flag }
+{
+    let [_, rest @ ..] = words else {
+        unreachable!();
+    };
+    match text_under(Some(flag), rest, 0) {
+        Some(word) => word,
+        None => unreachable!(),
+    }
 }
 
 /// All that the system gives but the first, which is the program's name.

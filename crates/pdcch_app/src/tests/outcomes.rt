@@ -42,6 +42,38 @@ fn reports_the_grid(rt: HostRuntime) -> Result<(), Fail> {
     Ok(())
 }
 
+/// The lines of its one watch.
+const EXPLAINED: &str =
+    "watch 0 set 1 symbol 0 level 8 candidate 0 size 39\nheard: 1_0 fdra=101 tdra=2 vrb=0 mcs=10 ndi=1 rv=0 harq=3 dai=0 tpc=1 pucch=5 timing=3\n";
+
+#[test]
+fn explains_the_watch(rt: HostRuntime) -> Result<(), Fail> {
+    let alloc = rt.alloc();
+    let text = grid(alloc, POINTS)?;
+    let mut shelf = shelf(alloc, text.as_str(), u64::MAX)?;
+    let sinks = (sink(alloc)?, sink(alloc)?);
+    let line = "explain s --watch 000000000 r i --handset alpha g";
+    let ran = run_into(&rt, alloc, line, &mut shelf, sinks)?;
+    assert_eq!(rt; ran.status, Status::Done);
+    assert_eq!(rt; ran.out.bytes(), EXPLAINED.as_bytes());
+    assert!(rt; ran.err.bytes().is_empty());
+    Ok(())
+}
+
+#[test]
+fn no_such_watch(rt: HostRuntime) -> Result<(), Fail> {
+    let alloc = rt.alloc();
+    let text = grid(alloc, POINTS)?;
+    let mut shelf = shelf(alloc, text.as_str(), u64::MAX)?;
+    let sinks = (sink(alloc)?, sink(alloc)?);
+    let line = "explain s r i g --handset alpha --watch 01";
+    let ran = run_into(&rt, alloc, line, &mut shelf, sinks)?;
+    assert_eq!(rt; ran.status, Status::NoSuch);
+    assert!(rt; ran.out.bytes().is_empty());
+    assert_eq!(rt; ran.err.bytes(), b"error: no such watch 01\n".as_slice());
+    Ok(())
+}
+
 #[test]
 fn failing_output(rt: HostRuntime) -> Result<(), Fail> {
     let alloc = rt.alloc();

@@ -1,28 +1,24 @@
-use Rattle.std.proofs.Common.{Err, get_or, ap, ◌∙◌}
+use Rattle.std.proofs.Common.{get_or, ap, ◌∙◌}
+use Rattle.std.proofs.lemmas.Result.{err_from_is_err_and}
 use Rattle.rrc_settings.specs.declared.settings.RawCell.{RawCell}
-use Rattle.monitor_plan.specs.declared.plan.PlanFault.{PlanFault}
-use Rattle.monitor_plan.specs.Planned.{over_by}
+use Rattle.monitor_plan.specs.Planned.{planned}
 use Rattle.blind_search.specs.Report.{report_of}
 use Rattle.blind_search.specs.Searcher.{SearcherValue}
-use Rattle.pdcch_app.proofs.Listeners.{name_of, listens_over, appended_from}
+use Rattle.pdcch_app.proofs.Listeners.{name_of, plan_is, listens_over, appended_from}
 use Rattle.pdcch_app.proofs.searching.push_handset.Goals as goal
 
-pub returns-in-Err-CommonOver : goal.returns-in-Err-CommonOver
-returns-in-Err-CommonOver c =
-    let f = c.in-Err-CommonOver in
-    listens_over c.args.cell.now c.args.tables.now c.args.grid.now c.args.handset c.frame.result c.slot.result
-    (get_or c.as_slice.result.now c.args.handset c.index-as_slice-handset.result).name c.args.text.now.items (over_by f.candidates f.cces) c.slot_refused.result
-    c.frame.ensures.value c.slot.ensures.value
-    (name_of c.args.cell.now c.as_slice.result.now c.args.handset c.index-as_slice-handset.result (c.as_slice.ensures ∙ ap (λ (raw : RawCell). raw.handsets) c.raw.ensures.value) c.requires.handset)
-    ((f.ensures.over f.candidates f.cces).0 (ap (λ (e : PlanFault). Err e) f.field-0-is)) c.slot_refused.ensures
+pub returns-in_err-plan : goal.returns-in_err-plan
+returns-in_err-plan c =
+    let p = err_from_is_err_and c.from_residual.result c.from_residual.ensures.1 in
+    rw (p.1, p.2) (listens_over c.args.cell.now c.args.tables.now c.args.grid.now c.args.handset c.args.text.now.items _ c.in_err-plan.ensures.read)
 
 pub returns : goal.returns
 returns c =
     let v = c.search.follows.holds-at-none in
     let p = ap (λ (s : SearcherValue). s.plan) c.in_ok-searcher.ensures in
-    appended_from c.args.cell.now c.args.tables.now c.args.grid.now c.args.handset c.frame.result c.slot.result c.in-Ok.plan c.plan.result.now c.found.result.now
+    appended_from c.args.cell.now c.args.tables.now c.args.grid.now c.args.handset c.in_ok-plan.plan c.plan.result.now c.found.result.now
     (get_or c.as_slice.result.now c.args.handset c.index-as_slice-handset.result).name c.args.text.now.items c.append_report.new.out.items
-    c.frame.ensures.value c.slot.ensures.value
     (name_of c.args.cell.now c.as_slice.result.now c.args.handset c.index-as_slice-handset.result (c.as_slice.ensures ∙ ap (λ (raw : RawCell). raw.handsets) c.raw.ensures.value) c.requires.handset)
-    c.in-Ok.ensures.planned (c.plan.ensures ∙ v.0 ∙ p)
+    (plan_is c.args.cell.now c.args.handset (planned c.args.cell.now c.args.handset c.args.grid.now.frame c.args.grid.now.slot) c.in_ok-plan.plan c.in_ok-plan.ensures.read)
+    (c.plan.ensures ∙ v.0 ∙ p)
     (c.found.ensures.report ∙ v.1 ∙ c.search.ensures.report ∙ ap (report_of c.args.tables.now c.args.grid.now) p) c.in_ok-append_report.ensures.whole
