@@ -6,9 +6,9 @@ use Rattle.std.proofs.lemmas.Bool.Decides.{nat_tests}
 use Rattle.pdcch_app.specs.declared.arguments.Flag.{Flag}
 use Rattle.pdcch_app.specs.declared.arguments.Flag.TheVariants.{Handset, Watch}
 use Rattle.pdcch_app.specs.declared.words.Command.TheVariants.{Explain}
-use Rattle.pdcch_app.specs.Arguments.{Argument, arguments, arguments_after, are_formed, are_plain, is_number, texts_under}
-use Rattle.pdcch_app.specs.Words.{are_as_many, command_of, handset, legal, value, watch}
-use Rattle.pdcch_app.proofs.Spellings.{both, taken}
+use Rattle.pdcch_app.specs.Arguments.{Argument, arguments, arguments_after, are_formed, is_number, texts_under}
+use Rattle.pdcch_app.specs.Words.{command_of, handset, legal, value, watch}
+use Rattle.pdcch_app.proofs.Spellings.{are_parts, both, taken}
 
 -- the value of `--watch` is a number, by the first argument
 first_number : (flag : Option Flag) (text : List ℕ) (list : List Argument) (word : List ℕ) → are_formed (record { flag = flag; text = text } ∷ list) ≡ true
@@ -47,9 +47,8 @@ asks_both (w ∷ ws) h =
     let named = texts_under (Some Handset) list in
     let numbered = texts_under (Some Watch) list in
     let is = taken (command_of (string_bytes w)) list Explain h in
-    let parts = both (are_plain list && are_formed list) (are_as_many Explain list) is.1 in
-    let formed = both (are_plain list) (are_formed list) parts.0 in
-    let many = both (eqb (length (texts_under None list)) 4) _ parts.1 in
+    let parts = are_parts Explain list is.1 in
+    let many = both (eqb (length (texts_under None list)) 4) _ parts.many in
     let options = both (eqb (length named) 1) _ many.1 in
     let one_name : length named ≡ 1 = is_one (length named) options.0 in
     let one_number : length numbered ≡ 1 = is_one (length numbered) (both (eqb (length numbered) 1) _ options.1).0 in
@@ -59,5 +58,5 @@ asks_both (w ∷ ws) h =
       watch_stands = omega (arith, one_number);
       handset_is = only_one named one_name;
       watch_is = word;
-      number = numbers list (value (w ∷ ws) Watch) formed.1 word;
+      number = numbers list (value (w ∷ ws) Watch) parts.formed word;
     }

@@ -15,6 +15,7 @@ use Rattle.dci_codec.specs.Answer.{answer_at}
 use Rattle.dci_codec.proofs.OneAnswer.{tells_the_answer}
 use Rattle.run_steps.specs.Outcome.{Fetched, given_of, ended}
 use Rattle.pdcch_app.specs.declared.arguments.Flag.TheVariants as flags
+use Rattle.pdcch_app.specs.declared.words.Command.TheVariants.{Explain}
 use Rattle.pdcch_app.specs.Arguments.{number_of}
 use Rattle.pdcch_app.specs.Checks.{settings_of, reliability_of, input_order_of, grid_of}
 use Rattle.pdcch_app.specs.Explaining.{explained, explained_by, printed, watch_text}
@@ -52,10 +53,10 @@ explains_every_watch words settings reliability input_order grid tables points n
     record {
       is =
           ap (λ c. served c words gave) w
-          ∙ went settings_of (file words 0) _ settings _ cell hs (settings-read settings s)
-          ∙ went reliability_of (file words 1) _ reliability _ tables.reliability hr (reliability-read reliability tables.reliability r)
-          ∙ went input_order_of (file words 2) _ input_order _ tables.input_order hi (input_order-read input_order tables.input_order i)
-          ∙ went (grid_of cell) (file words 3) _ grid _ points hg (grid-read cell grid points g mu blocks)
+          ∙ went settings_of (file Explain words 0) _ settings _ cell hs (settings-read settings s)
+          ∙ went reliability_of (file Explain words 1) _ reliability _ tables.reliability hr (reliability-read reliability tables.reliability r)
+          ∙ went input_order_of (file Explain words 2) _ input_order _ tables.input_order hi (input_order-read input_order tables.input_order i)
+          ∙ went (grid_of cell) (file Explain words 3) _ grid _ points hg (grid-read cell grid points g mu blocks)
           ∙ ap (λ (text : List ℕ). ended (explained cell tables points text (value words flags.Watch))) its_name
           ∙ ap (λ (text : List ℕ). ended (explained cell tables points name text)) its_word
           ∙ ap ended (explained-watch cell tables points name word place watches n p l);

@@ -11,7 +11,7 @@ use Rattle.run_steps.specs.declared.statuses.Status.TheVariants as ends
 use Rattle.run_steps.specs.Outcome.{Printed, Refusal, ended}
 use Rattle.pdcch_app.specs.declared.arguments.Flag.TheVariants as flags
 use Rattle.pdcch_app.specs.declared.words.Command.{Command}
-use Rattle.pdcch_app.specs.declared.words.Command.TheVariants.{Write, Search, Explain}
+use Rattle.pdcch_app.specs.declared.words.Command.TheVariants.{Write, Search, Explain, Sweep}
 use Rattle.pdcch_app.specs.Arguments.{number_of}
 use Rattle.pdcch_app.specs.Causes.{AsksWatch, IsNamed, SomeExceeds, takes_grid}
 use Rattle.pdcch_app.specs.Explaining.{explained}
@@ -36,6 +36,7 @@ pub grid_job_ends : (C : Status → Type 0) (words : List (String Global)) (comm
     → ((watches : List Watch) (word : List ℕ) → legal words ≡ Some Explain → AsksWatch words cell points watches word → number_of word < length watches → C ends.Done)
     → C (ended (grid_job command words cell tables points)).status
 grid_job_ends C words Write cell tables points h g unnamed over unknown searched_all watch_told = absurd (let f : ⊥ = cc in f)
+grid_job_ends C words Sweep cell tables points h g unnamed over unknown searched_all watch_told = absurd (let f : ⊥ = cc in f)
 grid_job_ends C words Search cell tables points h g unnamed over unknown searched_all watch_told =
     search_ends C cell tables points (handset words) unnamed over (searched_all h)
 grid_job_ends C words Explain cell tables points h g unnamed over unknown searched_all watch_told =

@@ -1,10 +1,12 @@
 pub mod Numbers
 pub mod Usages
+pub mod NamedFiles
 pub mod RunPromises
 pub mod ExplainedWatches
 pub mod Listeners
 pub mod Explainings
 pub mod Asked
+pub mod AskedSlots
 pub mod SlotsOver
 pub mod Placings
 pub mod Spellings
@@ -14,5 +16,6 @@ pub mod Exceeding
 pub mod FilesRead
 pub mod JobsDone
 pub mod GridJobs
+pub mod SweptTables
 pub mod CausesFound
 pub mod Endings

@@ -13,6 +13,7 @@ use Rattle.cell_placer.specs.Placing.{DeskValue}
 use Rattle.grant_file.specs.declared.grants.GrantList.{GrantList}
 use Rattle.run_steps.specs.Outcome.{Outcome, Refusal, Fetched, given_of, limit, reading, ended}
 use Rattle.run_steps.proofs.Taking.{given_of-within}
+use Rattle.pdcch_app.specs.declared.words.Command.TheVariants.{Write, Search}
 use Rattle.pdcch_app.specs.Checks.{settings_of, settings_found, grants_found, grants_of, grid_fitting, grid_read, grid_of, reliability_of, input_order_of, table_found}
 use Rattle.pdcch_app.specs.Lines.{reliability_line, input_order_line}
 use Rattle.pdcch_app.specs.Outcomes.{served}
@@ -64,10 +65,10 @@ writes_every_list words settings reliability input_order grants tables desk w hs
     let gave : List Fetched = given_of settings ∷ given_of reliability ∷ given_of input_order ∷ given_of grants ∷ [] in
     let cell = raw_in settings in
     ap (λ c. served c words gave) w
-    ∙ went settings_of (file words 0) _ settings _ cell hs (settings-read settings s)
-    ∙ went reliability_of (file words 1) _ reliability _ tables.reliability hr (reliability-read reliability tables.reliability r)
-    ∙ went input_order_of (file words 2) _ input_order _ tables.input_order hi (input_order-read input_order tables.input_order i)
-    ∙ went (grants_of cell) (file words 3) _ grants _ (grants_in grants) hg (grants-read cell grants j)
+    ∙ went settings_of (file Write words 0) _ settings _ cell hs (settings-read settings s)
+    ∙ went reliability_of (file Write words 1) _ reliability _ tables.reliability hr (reliability-read reliability tables.reliability r)
+    ∙ went input_order_of (file Write words 2) _ input_order _ tables.input_order hi (input_order-read input_order tables.input_order i)
+    ∙ went (grants_of cell) (file Write words 3) _ grants _ (grants_in grants) hg (grants-read cell grants j)
     ∙ ap ended (written-desk cell tables (grants_in grants) desk o)
 
 searched-all : (cell : RawCell) (tables : Tables) (grid : GridValue) (named : Option (List ℕ)) (handsets : List ℕ) (listeners : List Listener)
@@ -81,8 +82,8 @@ searches_every_grid words settings reliability input_order grid tables points ha
     let gave : List Fetched = given_of settings ∷ given_of reliability ∷ given_of input_order ∷ given_of grid ∷ [] in
     let cell = raw_in settings in
     ap (λ c. served c words gave) w
-    ∙ went settings_of (file words 0) _ settings _ cell hs (settings-read settings s)
-    ∙ went reliability_of (file words 1) _ reliability _ tables.reliability hr (reliability-read reliability tables.reliability r)
-    ∙ went input_order_of (file words 2) _ input_order _ tables.input_order hi (input_order-read input_order tables.input_order i)
-    ∙ went (grid_of cell) (file words 3) _ grid _ points hg (grid-read cell grid points g mu blocks)
+    ∙ went settings_of (file Search words 0) _ settings _ cell hs (settings-read settings s)
+    ∙ went reliability_of (file Search words 1) _ reliability _ tables.reliability hr (reliability-read reliability tables.reliability r)
+    ∙ went input_order_of (file Search words 2) _ input_order _ tables.input_order hi (input_order-read input_order tables.input_order i)
+    ∙ went (grid_of cell) (file Search words 3) _ grid _ points hg (grid-read cell grid points g mu blocks)
     ∙ ap ended (searched-all cell tables points (handset words) handsets listeners n l)

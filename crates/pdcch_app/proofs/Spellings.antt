@@ -9,9 +9,9 @@ use Rattle.std.proofs.lemmas.Option.{cond_some}
 use Rattle.pdcch_app.specs.declared.arguments.Flag.{Flag}
 use Rattle.pdcch_app.specs.declared.arguments.Flag.TheVariants.{Handset, Watch}
 use Rattle.pdcch_app.specs.declared.words.Command.{Command}
-use Rattle.pdcch_app.specs.declared.words.Command.TheVariants.{Write, Search, Explain}
+use Rattle.pdcch_app.specs.declared.words.Command.TheVariants.{Write, Search, Explain, Sweep}
 use Rattle.pdcch_app.specs.Arguments.{Argument, arguments_after, are_plain, are_formed, is_plain, flag_of, flag_name, flags}
-use Rattle.pdcch_app.specs.Words.{are_as_many, are_for, legal, command_of, command_name, commands}
+use Rattle.pdcch_app.specs.Words.{are_as_many, are_for, are_slots, legal, command_of, command_name, commands}
 use Rattle.pdcch_app.specs.Spelling.{words_under, spelled, LegalWordsAreSpelled, ReadsWhatIsSpelled}
 
 -- the words of the arguments alone
@@ -69,8 +69,22 @@ read_all (a ∷ list) words p e =
     let plain = both (is_plain a.text) (are_plain list) p in
     read_on a.flag a.text words (of_all list) list plain.0 e (λ ws rest. read_all list ws plain.1 rest)
 
+-- what arguments for a command are
+pub record AreFor (command : Command) (list : List Argument) : Type 0 where
+  pub plain : are_plain list ≡ true
+  pub formed : are_formed list ≡ true
+  pub many : are_as_many command list ≡ true
+  pub numbers : are_slots command list ≡ true
+
+pub are_parts : (command : Command) (list : List Argument) → are_for command list ≡ true → AreFor command list
+are_parts command list h =
+    let counted = both (are_plain list && are_formed list && are_as_many command list) (are_slots command list) h in
+    let written = both (are_plain list && are_formed list) (are_as_many command list) counted.0 in
+    let each = both (are_plain list) (are_formed list) written.0 in
+    record { plain = each.0; formed = each.1; many = written.1; numbers = counted.1 }
+
 plain_if_for : (command : Command) (list : List Argument) → are_for command list ≡ true → are_plain list ≡ true
-plain_if_for command list h = (both (are_plain list) (are_formed list) (both (are_plain list && are_formed list) (are_as_many command list) h).0).0
+plain_if_for command list h = (are_parts command list h).plain
 
 pub reads_spelled : ReadsWhatIsSpelled
 reads_spelled [] command list p e = search
@@ -96,6 +110,7 @@ command_of-name : (command : Command) → command_of (command_name command) ≡ 
 command_of-name Write = refl
 command_of-name Search = refl
 command_of-name Explain = refl
+command_of-name Sweep = refl
 
 -- the name of an option that the words follow
 abbrev before : Option Flag → List (List ℕ)

@@ -24,7 +24,7 @@ use Rattle.run_steps.specs.declared.statuses.Status.{Status}
 use Rattle.run_steps.specs.declared.statuses.Status.TheVariants as ends
 use Rattle.run_steps.specs.Outcome.{Fetched, Bytes, TooLong, Fault}
 use Rattle.pdcch_app.specs.declared.words.Command.{Command}
-use Rattle.pdcch_app.specs.declared.words.Command.TheVariants.{Write, Search, Explain}
+use Rattle.pdcch_app.specs.declared.words.Command.TheVariants.{Write, Search, Explain, Sweep}
 use Rattle.pdcch_app.specs.Arguments.{number_of}
 use Rattle.pdcch_app.specs.Reporting.{handset_named}
 use Rattle.pdcch_app.specs.Words.{legal, handset, watch}
@@ -63,21 +63,42 @@ pub record ReadGrid (gave : List Fetched) (cell : RawCell) (tables : Tables) (po
   pub mu : points.mu ≡ cell.mu
   pub blocks : points.blocks ≡ cell.blocks
 
--- the run came to a file whose fetch gave this: every file before it was read
-pub data CameTo (gave : List Fetched) (entry : Fetched) : Type 0 where
-  First : (rest : List Fetched) → gave ≡ entry ∷ rest → CameTo gave entry
-  Second : (cell : RawCell) (rest : List Fetched) → ReadSettings gave cell (entry ∷ rest) → CameTo gave entry
-  Third : (cell : RawCell) (numbers : List ℕ) (rest : List Fetched) → ReadReliability gave cell numbers (entry ∷ rest) → CameTo gave entry
-  Fourth : (cell : RawCell) (tables : Tables) → ReadTables gave cell tables (entry ∷ []) → CameTo gave entry
+-- the first file of a command is settings
+abbrev pub takes_settings : Command → Bool
+takes_settings Write = true
+takes_settings Search = true
+takes_settings Explain = true
+takes_settings Sweep = false
+
+-- the first file was read as the numbers of a reliability table; the rest is what the later fetches gave
+pub record ReadFirstTable (gave : List Fetched) (numbers : List ℕ) (rest : List Fetched) : Type 0 where
+  pub bytes : List ℕ
+  pub first : gave ≡ Bytes bytes ∷ rest
+  pub is : read_table 1024 bytes ≡ Ok numbers
+
+-- the reliability table was read, and then the second file, which is the last, as the numbers of an input order
+pub record ReadBothTables (gave : List Fetched) (tables : Tables) : Type 0 where
+  pub bytes : List ℕ
+  pub before : ReadFirstTable gave tables.reliability (Bytes bytes ∷ [])
+  pub is : read_table 164 bytes ≡ Ok tables.input_order
+
+-- a run of the command came to a file whose fetch gave this: every file before it was read, the settings or the first table first
+pub data CameTo (command : Command) (gave : List Fetched) (entry : Fetched) : Type 0 where
+  First : (rest : List Fetched) → gave ≡ entry ∷ rest → CameTo command gave entry
+  Second : (cell : RawCell) (rest : List Fetched) → takes_settings command ≡ true → ReadSettings gave cell (entry ∷ rest) → CameTo command gave entry
+  Third : (cell : RawCell) (numbers : List ℕ) (rest : List Fetched) → takes_settings command ≡ true → ReadReliability gave cell numbers (entry ∷ rest) → CameTo command gave entry
+  Fourth : (cell : RawCell) (tables : Tables) → takes_settings command ≡ true → ReadTables gave cell tables (entry ∷ []) → CameTo command gave entry
+  SecondTable : (numbers : List ℕ) → takes_settings command ≡ false → ReadFirstTable gave numbers (entry ∷ []) → CameTo command gave entry
 
 -- the words are of no command
 abbrev pub WordsAreFaulty : List (String Global) → List Fetched → Type 0
 WordsAreFaulty words gave = legal words ≡ None
 
--- the first file is no legal settings
+-- the words are of a command whose first file is settings, and this file is no legal settings
 pub record SettingsAreFaulty (words : List (String Global)) (gave : List Fetched) : Type 0 where
   pub command : Command
   pub legal_is : legal words ≡ Some command
+  pub settings : takes_settings command ≡ true
   pub bytes : List ℕ
   pub rest : List Fetched
   pub first : gave ≡ Bytes bytes ∷ rest
@@ -103,11 +124,32 @@ pub record InputOrderIsFaulty (gave : List Fetched) : Type 0 where
   pub fault : TableFault
   pub found : read_table 164 bytes ≡ Err fault
 
--- one of the two tables is none, where every file before it was read
+-- the first file is no reliability table
+pub record FirstTableIsFaulty (gave : List Fetched) : Type 0 where
+  pub bytes : List ℕ
+  pub rest : List Fetched
+  pub first : gave ≡ Bytes bytes ∷ rest
+  pub fault : TableFault
+  pub found : read_table 1024 bytes ≡ Err fault
+
+-- the first file was read as a reliability table, and the second file is no input order
+pub record SecondTableIsFaulty (gave : List Fetched) : Type 0 where
+  pub numbers : List ℕ
+  pub bytes : List ℕ
+  pub before : ReadFirstTable gave numbers (Bytes bytes ∷ [])
+  pub fault : TableFault
+  pub found : read_table 164 bytes ≡ Err fault
+
+-- one of the two tables is none, where every file before it was read: the tables follow the settings, where the command takes them
+pub data SomeTableIsFaulty (command : Command) (gave : List Fetched) : Type 0 where
+  BehindSettings : takes_settings command ≡ true → ReliabilityIsFaulty gave ⊎ InputOrderIsFaulty gave → SomeTableIsFaulty command gave
+  AtFirst : takes_settings command ≡ false → FirstTableIsFaulty gave ⊎ SecondTableIsFaulty gave → SomeTableIsFaulty command gave
+
+-- so it is for the command of the words
 pub record TableIsFaulty (words : List (String Global)) (gave : List Fetched) : Type 0 where
   pub command : Command
   pub legal_is : legal words ≡ Some command
-  pub table : ReliabilityIsFaulty gave ⊎ InputOrderIsFaulty gave
+  pub table : SomeTableIsFaulty command gave
 
 -- the settings and both tables were read for `write`, and the last file is no grants of a slot of the cell
 pub record GrantsAreFaulty (words : List (String Global)) (gave : List Fetched) : Type 0 where
@@ -130,6 +172,7 @@ abbrev pub takes_grid : Command → Bool
 takes_grid Write = false
 takes_grid Search = true
 takes_grid Explain = true
+takes_grid Sweep = false
 
 -- the words are of a command whose last file is a grid: `search` or `explain`
 pub record TakesGrid (words : List (String Global)) : Type 0 where
@@ -150,7 +193,7 @@ pub record GridIsFaulty (words : List (String Global)) (gave : List Fetched) : T
 pub record Meets (entry : Fetched) (words : List (String Global)) (gave : List Fetched) : Type 0 where
   pub command : Command
   pub legal_is : legal words ≡ Some command
-  pub file : CameTo gave entry
+  pub file : CameTo command gave entry
 
 -- a handset of the cell has the name
 pub record IsNamed (cell : RawCell) (name : List ℕ) : Type 0 where
@@ -282,9 +325,15 @@ pub record ExplainIsDone (words : List (String Global)) (gave : List Fetched) : 
   pub asks : AsksWatch words cell points watches word
   pub below : number_of word < length watches
 
+-- both tables were read for `sweep`
+pub record SweepIsDone (words : List (String Global)) (gave : List Fetched) : Type 0 where
+  pub legal_is : legal words ≡ Some Sweep
+  pub tables : Tables
+  pub read : ReadBothTables gave tables
+
 -- the job was done whole
 abbrev pub JobIsDone : List (String Global) → List Fetched → Type 0
-JobIsDone words gave = WriteIsDone words gave ⊎ (SearchIsDone words gave ⊎ ExplainIsDone words gave)
+JobIsDone words gave = WriteIsDone words gave ⊎ (SearchIsDone words gave ⊎ (ExplainIsDone words gave ⊎ SweepIsDone words gave))
 
 -- the cause of each status, with none for those that the words and the files do not decide
 abbrev pub CauseOf : Status → List (String Global) → List Fetched → Type 0

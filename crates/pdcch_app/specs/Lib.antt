@@ -5,6 +5,7 @@ pub mod Lines
 pub mod Checks
 pub mod Reporting
 pub mod Explaining
+pub mod Sweeping
 pub mod Writing
 pub mod Outcomes
 pub mod Promises

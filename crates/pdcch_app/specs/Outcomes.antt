@@ -6,12 +6,13 @@ use Rattle.run_steps.specs.declared.statuses.Status.TheVariants as status
 use Rattle.run_steps.specs.Outcome.{Outcome, Fetched, refused, ended, reading}
 use Rattle.pdcch_app.specs.declared.arguments.Flag.TheVariants.{Handset, Watch}
 use Rattle.pdcch_app.specs.declared.words.Command.{Command}
-use Rattle.pdcch_app.specs.declared.words.Command.TheVariants.{Write, Search, Explain}
+use Rattle.pdcch_app.specs.declared.words.Command.TheVariants.{Write, Search, Explain, Sweep}
 use Rattle.pdcch_app.specs.Checks.{settings_of, reliability_of, input_order_of, grants_of, grid_of}
 use Rattle.pdcch_app.specs.Explaining.{explained}
 use Rattle.pdcch_app.specs.Lines.{usage_line}
 use Rattle.pdcch_app.specs.Reporting.{searched}
-use Rattle.pdcch_app.specs.Words.{legal, file, handset, value}
+use Rattle.pdcch_app.specs.Sweeping.{swept}
+use Rattle.pdcch_app.specs.Words.{legal, file, handset, slots, value}
 use Rattle.pdcch_app.specs.Writing.{written}
 
 -- the two tables of a run
@@ -43,14 +44,23 @@ explain_of name word settings reliability input_order grid =
     reading input_order_of input_order (λ i.
     reading (grid_of cell) grid (λ points _. ended (explained cell (both r i) points name word)))))
 
+-- `sweep`: the two tables, each fetched and checked before the next; then the summary of the first slots of the load
+abbrev pub sweep_of : ℕ → List ℕ → List ℕ → List Fetched → Outcome
+sweep_of slots reliability input_order =
+    reading reliability_of reliability (λ r.
+    reading input_order_of input_order (λ i _. ended (swept (both r i) slots)))
+
 -- the outcome of a command
 abbrev pub served : Option Command → List (String Global) → List Fetched → Outcome
 served None words gave = refused status.Usage usage_line
-served (Some Write) words gave = write_of (file words 0) (file words 1) (file words 2) (file words 3) gave
+served (Some Write) words gave =
+    write_of (file Write words 0) (file Write words 1) (file Write words 2) (file Write words 3) gave
 served (Some Search) words gave =
-    search_of (handset words) (file words 0) (file words 1) (file words 2) (file words 3) gave
+    search_of (handset words) (file Search words 0) (file Search words 1) (file Search words 2) (file Search words 3) gave
 served (Some Explain) words gave =
-    explain_of (value words Handset) (value words Watch) (file words 0) (file words 1) (file words 2) (file words 3) gave
+    explain_of (value words Handset) (value words Watch)
+    (file Explain words 0) (file Explain words 1) (file Explain words 2) (file Explain words 3) gave
+served (Some Sweep) words gave = sweep_of (slots words) (file Sweep words 0) (file Sweep words 1) gave
 
 -- the outcome of a run with these words, over what each fetch gave
 abbrev pub outcome : List (String Global) → List Fetched → Outcome

@@ -1,6 +1,6 @@
 -- What a run of the program promises, as sentences over what it leaves and over its outcome.
-use Rattle.std.specs.Prelude.{◌≡◌, ◌<◌, ◌≤◌, ℕ, cond, List, [], ◌∷◌, Some, None, Ok, String, length}
-use Rattle.std.specs.List.{list_all}
+use Rattle.std.specs.Prelude.{◌≡◌, ◌<◌, ◌≤◌, ℕ, cond, List, [], ◌∷◌, Some, None, Ok, String, length, map}
+use Rattle.std.specs.List.{list_all, range_with_len}
 use Rattle.std.specs.declared.alloc.Global.{Global}
 use Rattle.settings_json.specs.First.{first_fault_in, raw_in}
 use Rattle.table_files.specs.TableText.{read_table}
@@ -15,15 +15,17 @@ use Rattle.monitor_plan.specs.Watch.{watch_at}
 use Rattle.dci_codec.specs.Answer.{answer_at}
 use Rattle.dci_codec.specs.Silences.{IsAnswer}
 use Rattle.report_text.specs.Explain.{explain_text}
+use Rattle.par_sweep.specs.Summary.{summary_text}
+use Rattle.par_sweep.specs.Sweep.{slot_totals}
 use Rattle.cell_placer.specs.Opened.{opened}
 use Rattle.cell_placer.specs.Placing.{DeskValue, fates, desk_after}
 use Rattle.run_steps.specs.declared.statuses.Status.TheVariants as ends
 use Rattle.run_steps.specs.Outcome.{Outcome, given_of, limit}
-use Rattle.pdcch_app.specs.declared.words.Command.TheVariants.{Write, Search, Explain}
+use Rattle.pdcch_app.specs.declared.words.Command.TheVariants.{Write, Search, Explain, Sweep}
 use Rattle.pdcch_app.specs.Arguments.{number_of}
 use Rattle.pdcch_app.specs.Outcomes.{outcome}
 use Rattle.pdcch_app.specs.Reporting.{Listener, handset_named, reported, listeners_of, reported_text}
-use Rattle.pdcch_app.specs.Words.{legal, handset, watch}
+use Rattle.pdcch_app.specs.Words.{legal, handset, slots, watch}
 use Rattle.pdcch_app.specs.Writing.{is_placed, refusal_lines}
 
 -- for legal words of `write`, every legal cell, any two tables and every legal list of grants, where no handset's common sets
@@ -78,3 +80,18 @@ ExplainsEveryWatch = (words : List (String Global)) (settings reliability input_
     → number_of word < length watches
     → ExplainsWatch tables points (watch_at watches (number_of word)) (number_of word)
     (outcome words (given_of settings ∷ given_of reliability ∷ given_of input_order ∷ given_of grid ∷ []))
+
+-- the outcome of `sweep` is the summary of the totals of the first slots of the generated load, as many as the words say: from 1 to 200
+pub record SweepsSlots (words : List (String Global)) (tables : Tables) (found : Outcome) : Type 0 where
+  pub is : found ≡ record { status = ends.Done; out = summary_text (map (slot_totals tables) (range_with_len 0 (slots words))); err = [] }
+  pub least : 1 ≤ slots words
+  pub most : slots words ≤ 200
+
+-- for legal words of `sweep` and any two tables: the output is this summary on these tables, the error output is empty, and the status
+-- is that of a job that was done
+abbrev pub SweepsTheLoad : Type 0
+SweepsTheLoad = (words : List (String Global)) (reliability input_order : List ℕ) (tables : Tables)
+    → legal words ≡ Some Sweep
+    → length reliability ≤ limit → length input_order ≤ limit
+    → read_table 1024 reliability ≡ Ok tables.reliability → read_table 164 input_order ≡ Ok tables.input_order
+    → SweepsSlots words tables (outcome words (given_of reliability ∷ given_of input_order ∷ []))

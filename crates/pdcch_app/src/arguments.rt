@@ -158,7 +158,7 @@ fn are_digits(bytes: &[u8]) -> bool
 }
 
 /// Whether a text is one to nine decimal digits.
-fn is_number(text: &str) -> bool
+pub(crate) fn is_number(text: &str) -> bool
     ensures { result ≡ is_number text.now }
 {
     1 <= text.len() && text.len() <= 9 && are_digits(text.as_bytes())

@@ -1,9 +1,9 @@
 //! The commands, each step by step in the order of its work.
-ghost use Rattle.std.specs.Prelude.{◌≡◌, ◌∷◌, [], Some};
+ghost use Rattle.std.specs.Prelude.{◌≡◌, ◌≤◌, ◌∷◌, [], Some};
 ghost use Rattle.run_steps.specs.Outcome.{ended};
 ghost use Rattle.run_steps.specs.Steps.{Work, Ends};
 ghost use Rattle.pdcch_app.specs.Explaining.{explained};
-ghost use Rattle.pdcch_app.specs.Outcomes.{write_of, search_of, explain_of};
+ghost use Rattle.pdcch_app.specs.Outcomes.{write_of, search_of, explain_of, sweep_of};
 ghost use Rattle.pdcch_app.specs.Reporting.{searched};
 ghost use Rattle.pdcch_app.specs.Words.{legal, handset, value};
 
@@ -11,13 +11,16 @@ use crate::arguments::Flag;
 use crate::explaining::explain_named;
 use crate::files::{grants_at, grid_at, input_order_at, reliability_at, settings_at};
 use crate::searching::{report_all, report_named};
+use crate::sweeping::sweep_text;
 use crate::words::{Command, handset, value};
 use crate::writing::write_text;
 use outside::Shelf;
+use par_sweep::Gate;
 use rrc_settings::Cell;
 use run_steps::{Answer, Stop};
 use slot_grid::Grid;
 use std::alloc::Global;
+use std::thread::Threads;
 use table_files::Tables;
 
 /// Writes the grid of the grants in the cell of the settings, with the two tables.
@@ -138,4 +141,29 @@ pub fn explain<S: Shelf>(
         input_order,
     };
     explain_text(alloc, words, &cell, &tables, &points)
+}
+
+/// Sums up the first slots of the generated load, with the two tables.
+pub fn sweep<R: Threads + Sync, G: Gate, S: Shelf>(
+    rt: &R,
+    alloc: Global,
+    gate: &G,
+    shelf: &mut S,
+    slots: u32,
+    reliability: &str,
+    input_order: &str,
+) -> Result<Answer, Stop>
+    requires least { 1 ≤ slots }
+    requires most { slots ≤ 200 }
+    requires reliability { S.may shelf.old reliability.now }
+    requires input_order { S.may shelf.old input_order.now }
+    ensures { Work (sweep_of slots reliability.now input_order.now) (reliability.now ∷ input_order.now ∷ []) (S.shows shelf.old) (S.shows shelf.new) result }
+{
+    let reliability = reliability_at(alloc, shelf, reliability)?;
+    let input_order = input_order_at(alloc, shelf, input_order)?;
+    let tables = Tables {
+        reliability,
+        input_order,
+    };
+    sweep_text(rt, alloc, gate, &tables, slots)
 }

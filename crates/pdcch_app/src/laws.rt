@@ -1,7 +1,7 @@
 //! What a run of the program promises: laws over the definitions that the contract of `run` names, as the contracts of
 //! functions with nothing to do. Those of every run, whatever its commands, stand in `run_steps`.
 ghost use Rattle.pdcch_app.specs.Hearing.{HearsWhatIsWritten, ReportsWhatIsSpelled};
-ghost use Rattle.pdcch_app.specs.Promises.{WritesEveryList, SearchesEveryGrid, ExplainsEveryWatch};
+ghost use Rattle.pdcch_app.specs.Promises.{WritesEveryList, SearchesEveryGrid, ExplainsEveryWatch, SweepsTheLoad};
 ghost use Rattle.pdcch_app.specs.Endings.{
   EndsByItsCause,
   EndsAsUsage,
@@ -45,6 +45,11 @@ pub fn explains_every_watch()
     ensures { ExplainsEveryWatch }
 {}
 
+/// Any two tables give the summary of the first slots of the generated load, as many as the words say.
+pub fn sweeps_the_load()
+    ensures { SweepsTheLoad }
+{}
+
 /// What is printed of each reported handset has just what the grid spells at its watches.
 pub fn reports_what_is_spelled()
     ensures { ReportsWhatIsSpelled }
@@ -67,13 +72,13 @@ pub fn ends_as_usage()
     ensures { EndsAsUsage }
 {}
 
-/// A run ends with refused settings exactly where the words are legal and the first file is no legal settings.
+/// A run ends with refused settings exactly where it is to write, to search or to explain and the first file is no legal settings.
 pub fn ends_as_settings_refused()
     ensures { EndsAsSettingsRefused }
 {}
 
-/// A run ends with a refused table exactly where the settings were read and the second file is no reliability table, or both
-/// were read and the third file is no input order.
+/// A run ends with a refused table exactly where every file before it was read and it is no reliability table or no input order:
+/// the second or the third file behind the settings, and in `sweep`, which reads no settings, the first or the second.
 pub fn ends_as_table_refused()
     ensures { EndsAsTableRefused }
 {}
@@ -122,6 +127,7 @@ pub fn ends_as_grants_refused()
 /// A run ends as done exactly where every file was read, the common sets of no handset exceed a limit in the slot (in `search`
 /// of no reported one, in `explain` not those of the named one), and in `write` each of the grants was placed, in `search` the cell
 /// has a handset that the words name, in `explain` it has the handset that they name and this the watch of the number that they give.
+/// `sweep` reads the two tables alone, and nothing else is asked of it.
 pub fn ends_as_done()
     ensures { EndsAsDone }
 {}

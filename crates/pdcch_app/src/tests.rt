@@ -4,6 +4,7 @@ ghost use Rattle.std.specs.Prelude.{ℕ, List};
 
 use crate::top::run;
 use outside::{MemorySink, NamedBytes, Shelf};
+use par_sweep::OpenGate;
 use run_steps::Status;
 use std::alloc::{AllocError, Global};
 use std::test::Fail;
@@ -104,6 +105,6 @@ fn run_into<R: Threads + Sync, S: Shelf>(
 {
     let list = words(alloc, line)?;
     let (mut out, mut err) = sinks;
-    let status = run(rt, alloc, &list, shelf, &mut out, &mut err);
+    let status = run(rt, alloc, &OpenGate, &list, shelf, &mut out, &mut err);
     Ok(Ran { status, out, err })
 }

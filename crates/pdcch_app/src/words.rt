@@ -1,12 +1,14 @@
 //! The words of the command line.
-ghost use Rattle.std.specs.Prelude.{◌≡◌, ◌≢◌, ◌<◌, Some, None, [], length, drop, IfSome, IfOk, IfErr, MatchOption, MatchResult};
+ghost use Rattle.std.specs.Prelude.{◌≡◌, ◌≢◌, ◌<◌, ◌≤◌, Some, None, [], length, drop, IfSome, IfOk, IfErr, MatchOption, MatchResult, slice_get};
 ghost use Rattle.std.specs.Vec.Iter.{into_iter_items};
 ghost use Rattle.std.specs.IoError.{error_kind};
 ghost use Rattle.std.specs.declared.io.ErrorKind.TheVariants.{InvalidData};
 ghost use Rattle.pdcch_app.specs.Arguments.{arguments, arguments_after, texts_under};
-ghost use Rattle.pdcch_app.specs.Words.{legal, files, file, handset, value, count_of, command_of, use_of, allows};
+ghost use Rattle.pdcch_app.specs.Words.{legal, files, file, handset, value, slots, count_of, command_of, numbers_before, use_of, allows, is_slots, are_slots};
 
-use crate::arguments::{Flag, are_formed, are_plain, count_under, text_under};
+use crate::arguments::{
+    Flag, are_formed, are_plain, count_under, is_number, number_of, text_under,
+};
 use std::alloc::{AllocError, Global};
 use std::env::Args;
 use std::io;
@@ -21,6 +23,8 @@ pub enum Command {
     Search,
     /// Tells what is heard at one watch, or why nothing is.
     Explain,
+    /// Sums up the first slots of the generated load.
+    Sweep,
 }
 
 /// How often a command takes an option.
@@ -40,6 +44,19 @@ impl Command {
             Command::Write => 4,
             Command::Search => 4,
             Command::Explain => 4,
+            Command::Sweep => 2,
+        }
+    }
+
+    /// How many numbers stand before the files.
+    fn numbers_before(&self) -> usize
+        ensures { result ≡ numbers_before self.now }
+    {
+        match self {
+            Command::Write => 0,
+            Command::Search => 0,
+            Command::Explain => 0,
+            Command::Sweep => 1,
         }
     }
 
@@ -54,6 +71,8 @@ impl Command {
             (Command::Search, Flag::Watch) => Use::Never,
             (Command::Explain, Flag::Handset) => Use::Once,
             (Command::Explain, Flag::Watch) => Use::Once,
+            (Command::Sweep, Flag::Handset) => Use::Never,
+            (Command::Sweep, Flag::Watch) => Use::Never,
         }
     }
 
@@ -63,6 +82,39 @@ impl Command {
     {
         self.use_of(flag).allows(count_under(Some(flag), words))
     }
+
+    /// Whether the numbers before the files are numbers of slots.
+    fn takes_numbers(&self, words: &[String]) -> bool
+        ensures { result ≡ are_slots self.now (arguments_after None words.now) }
+    {
+        match self {
+            Command::Write => true,
+            Command::Search => true,
+            Command::Explain => true,
+            Command::Sweep => starts_with_slots(words),
+        }
+    }
+}
+
+/// Whether the first argument under no option of the words after a command, where there is one, is a number of slots.
+fn starts_with_slots(words: &[String]) -> bool
+    ensures { result ≡ are_slots Command.Sweep (arguments_after None words.now) }
+{
+    match text_under(None, words, 0) {
+        Some(text) => is_slots(text),
+        None => true,
+    }
+}
+
+/// Whether a text is a number of slots to sweep.
+fn is_slots(text: &str) -> bool
+    ensures { result ≡ is_slots text.now }
+{
+    if !is_number(text) {
+        return false;
+    }
+    let number = number_of(text);
+    1 <= number && number <= 200
 }
 
 impl Use {
@@ -87,6 +139,8 @@ fn command_of(word: &[u8]) -> Option<Command>
         Some(Command::Search)
     } else if word == b"explain".as_slice() {
         Some(Command::Explain)
+    } else if word == b"sweep".as_slice() {
+        Some(Command::Sweep)
     } else {
         None
     }
@@ -95,7 +149,7 @@ fn command_of(word: &[u8]) -> Option<Command>
 /// The command, where the words are legal: its name, then arguments for it.
 pub fn legal(words: &[String]) -> Option<Command>
     ensures command { result ≡ legal words.now }
-    ensures files { IfSome result (λ command. length (files words.now) ≡ count_of command) }
+    ensures files { IfSome result (λ command. length (files command words.now) ≡ count_of command) }
 {
     let [first, rest @ ..] = words else {
         return None;
@@ -103,9 +157,10 @@ pub fn legal(words: &[String]) -> Option<Command>
     let command = command_of(first.as_bytes())?;
     if are_plain(rest)
         && are_formed(rest)
-        && count_under(None, rest) == command.count()
+        && count_under(None, rest) == command.numbers_before() + command.count()
         && command.takes(Flag::Handset, rest)
         && command.takes(Flag::Watch, rest)
+        && command.takes_numbers(rest)
     {
         Some(command)
     } else {
@@ -113,16 +168,36 @@ pub fn legal(words: &[String]) -> Option<Command>
     }
 }
 
-/// The word that names the file at a place, the first file's being 0.
-pub fn file(words: &[String], place: usize) -> &str
-    requires { place < length (files words.now) }
-    ensures { result.now ≡ file words.now place }
+/// The argument under no option at a place, the first being at place 0.
+fn argument(words: &[String], place: usize) -> Option<&str>
+    ensures { MatchOption result (slice_get (texts_under None (arguments words.now)) place ≡ None) (λ text. slice_get (texts_under None (arguments words.now)) place ≡ Some text.now) }
 {
     let [_, rest @ ..] = words else {
-        unreachable!();
+        return None;
     };
-    match text_under(None, rest, place) {
+    text_under(None, rest, place)
+}
+
+/// The word that names the file of a command at a place, the first file's being 0.
+pub fn file(command: Command, words: &[String], place: u8) -> &str
+    requires { place < length (files command words.now) }
+    ensures { result.now ≡ file command words.now place }
+{
+    match argument(words, command.numbers_before() + usize::from(place)) {
         Some(word) => word,
+        None => unreachable!(),
+    }
+}
+
+/// The number of slots to sweep.
+pub fn slots(words: &[String]) -> u32
+    requires { legal words.now ≡ Some Command.Sweep }
+    ensures slots { result ≡ slots words.now }
+    ensures least { 1 ≤ result }
+    ensures most { result ≤ 200 }
+{
+    match argument(words, 0) {
+        Some(text) => number_of(text),
         None => unreachable!(),
     }
 }
