@@ -146,7 +146,8 @@ status_by : (words : List (String Global)) (gave : List Fetched) (status : Statu
 status_by words gave ends.Usage c = rw c refl
 status_by words gave ends.SettingsRefused c =
     ap status_in (outcome_is words gave c.command c.legal_is c.settings)
-    ∙ file_refused settings_of (file c.command words 0) (after_settings (last_of c.command words) (file c.command words 1) (file c.command words 2)) gave c.bytes c.rest BadSettings (settings_line c.fault) c.first
+    ∙ file_refused settings_of (file c.command words 0)
+    (after_settings (last_of c.command words) (file c.command words 1) (file c.command words 2)) gave c.bytes c.rest BadSettings (settings_line c.fault) c.first
     (settings_faulty c.bytes c.fault c.found)
 status_by words gave ends.TableRefused c = table_status words gave c.command c.legal_is c.table
 status_by words gave ends.GrantsFileRefused c =

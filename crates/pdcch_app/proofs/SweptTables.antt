@@ -1,5 +1,5 @@
 -- The two tables of `sweep`, and how a run ends by them.
-use Rattle.std.proofs.Common.{◌≡◌, ◌⊎◌, inl, inr, ℕ, true, false, Some, List, [], ◌∷◌, Ok, String, refl, sym, ap, ◌∙◌}
+use Rattle.std.proofs.Common.{◌≡◌, ◌⊎◌, inl, inr, ℕ, false, Some, List, [], ◌∷◌, String, refl, sym, ap, ◌∙◌}
 use Rattle.std.specs.declared.alloc.Global.{Global}
 use Rattle.table_files.specs.declared.tables.Tables.{Tables}
 use Rattle.run_steps.specs.declared.statuses.Status.{Status}
@@ -10,7 +10,7 @@ use Rattle.pdcch_app.specs.declared.words.Command.TheVariants.{Write, Search, Ex
 use Rattle.pdcch_app.specs.Causes.{ReadFirstTable, ReadBothTables, CameTo, First, Second, Third, Fourth, SecondTable, FirstTableIsFaulty, SecondTableIsFaulty, takes_settings}
 use Rattle.pdcch_app.specs.Checks.{reliability_of, input_order_of}
 use Rattle.pdcch_app.specs.Lines.{reliability_line, input_order_line}
-use Rattle.pdcch_app.specs.Outcomes.{both, outcome, served, sweep_of}
+use Rattle.pdcch_app.specs.Outcomes.{both, outcome, served}
 use Rattle.pdcch_app.specs.Promises.{SweepsTheLoad}
 use Rattle.pdcch_app.specs.Sweeping.{swept}
 use Rattle.pdcch_app.specs.Words.{file, legal, slots}

@@ -29,7 +29,7 @@ EndsByItsCause = (words : List (String Global)) (gave : List Fetched) (status : 
 abbrev pub EndsAsUsage : Type 0
 EndsAsUsage = EndsExactly ends.Usage WordsAreFaulty
 
--- with refused settings exactly where the first file is no legal settings
+-- with refused settings exactly where the command takes settings and the first file is no legal settings
 abbrev pub EndsAsSettingsRefused : Type 0
 EndsAsSettingsRefused = EndsExactly ends.SettingsRefused SettingsAreFaulty
 

@@ -1,4 +1,4 @@
-use Rattle.std.proofs.Common.{◌≡◌, ℕ, ◌+◌, None, Some, slice_get, sym, ap, ◌∙◌, arith}
+use Rattle.std.proofs.Common.{◌≡◌, ◌+◌, None, slice_get, sym, ap, ◌∙◌, arith}
 use Rattle.pdcch_app.specs.Arguments.{arguments, texts_under}
 use Rattle.pdcch_app.specs.Words.{numbers_before}
 use Rattle.pdcch_app.proofs.AskedSlots.{few_numbers, file_is, file_there}
