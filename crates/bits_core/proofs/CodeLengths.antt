@@ -1,19 +1,18 @@
 -- What holds at each of the five lengths holds at a code length.
-use Rattle.std.proofs.Common.{ℕ, ◌≡◌, ◌^◌, ◌≤◌, lit≤, Bool, true, false, ◌||◌, ◌⊎◌, inl, inr, refl, subst, sym, ◌∙◌}
+use Rattle.std.proofs.Common.{ℕ, ◌≡◌, ◌^◌, ◌≤◌, lit≤, Bool, true, false, ◌||◌, inl, inr, refl, subst, sym, ◌∙◌}
+use Rattle.std.proofs.lemmas.Bool.{or_cases}
 use Rattle.std.proofs.lemmas.Bool.Decides.{eqb_tells}
 use Rattle.std.specs.Prelude.{IsTrue, ◌==◌}
 use Rattle.bits_core.specs.CodeLengths.{is_code_length}
 
-or_tells : (s t : Bool) → IsTrue (s || t) → IsTrue s ⊎ IsTrue t
-or_tells true t h = inl refl
-or_tells false t h = inr h
-
 is_one : (P : ℕ → Type 0) (n a : ℕ) → P a → IsTrue (n == a) → P n
-is_one P n a p h = elim (eqb_tells n a) [ inl e ↦ subst P (sym e.1) p | inr e ↦ absurd (let f : true ≡ false = sym h ∙ e.0 in cc) ]
+is_one P n a p h =
+    elim (eqb_tells n a) [ inl e ↦ subst P (sym e.1) p | inr e ↦ absurd (let f : true ≡ false = sym h ∙ e.0 in cc) ]
 
 one_more : (P : ℕ → Type 0) (n a : ℕ) (rest : Bool) → P a → (IsTrue rest → P n) → IsTrue (rest || n == a) → P n
-one_more P n a rest p q h = elim (or_tells rest (n == a) h) [ inl r ↦ q r | inr e ↦ is_one P n a p e ]
+one_more P n a rest p q h = elim (or_cases rest (n == a) h) [ inl r ↦ q r | inr e ↦ is_one P n a p e ]
 
+-- what holds at each of the five lengths holds at a code length
 pub by_lengths : (P : ℕ → Type 0) → P 32 → P 64 → P 128 → P 256 → P 512 → (n : ℕ) → IsTrue (is_code_length n) → P n
 by_lengths P a b c d e n =
     one_more P n 512 (n == 32 || n == 64 || n == 128 || n == 256) e
@@ -27,6 +26,7 @@ pub record IsPower (n : ℕ) : Type 0 where
   pub power : n ≡ 2 ^ exponent
   pub limit : n ≤ 512
 
+-- each code length is such a power
 pub power_of : (n : ℕ) → IsTrue (is_code_length n) → IsPower n
 power_of =
     by_lengths IsPower

@@ -1,18 +1,23 @@
 -- Numbers in bits, most significant bit first.
-use Rattle.std.proofs.Common.{◌≡◌, ℕ, zero, suc, ◌+◌, ◌-◌, ◌*◌, ◌/◌, ◌^◌, ◌<◌, ◌≤◌, Bool, true, false, cond, eqb, List, [], ◌∷◌, ◌++◌, length, get_or, take, drop, map, bit_and, refl, ap, sym, subst, ◌∙◌, arith, append_assoc, add-one, length-drop}
+use Rattle.std.proofs.Common.{◌≡◌, ℕ, zero, suc, ◌+◌, ◌-◌, ◌*◌, ◌/◌, ◌^◌, ◌<◌, ◌≤◌, Bool, true, false, cond, eqb, List, [], ◌∷◌}
+use Rattle.std.proofs.Common.{◌++◌, length, get_or, take, drop, map, bit_and, refl, ap, sym, subst, ◌∙◌, arith, append_assoc}
+use Rattle.std.proofs.Common.{add-one, length-drop}
 use Rattle.std.specs.List.{range_with_len}
 use Rattle.std.specs.Int.{bit_at, from_bool}
 use Rattle.std.proofs.Math.Nat.{pow-succ', pow-le-pow_right}
 use Rattle.std.proofs.lemmas.List.{take_more, take_all, length_push, length-take, get_or-drop}
 use Rattle.std.proofs.lemmas.List.FromFn.{length-map-range_with_len, get_or-map-range_with_len, fill_by_all}
-use Rattle.std.proofs.lemmas.Nat.Bits.{shr_and_one, bit_at-lt, bit_at_above, bit_at_cat_low, bit_at_cat_high, same_from_bits_below}
+use Rattle.std.proofs.lemmas.Nat.Bits.{shr_and_one, bit_at-lt, bit_at_above, bit_at_cat_low, bit_at_cat_high}
+use Rattle.std.proofs.lemmas.Nat.Bits.{same_from_bits_below}
 use Rattle.bits_core.specs.Bits.{bits_of, number_of}
 
+-- a number in n bits has n
 pub length-bits_of : (width value : ℕ) → length (bits_of width value) ≡ width
 length-bits_of width value = length-map-range_with_len (λ i. eqb (bit_at value (width - 1 - i)) 1) 0 width
 
 -- the bit at a place of a number in bits
-pub get_or-bits_of : (width value at : ℕ) → at < width → get_or (bits_of width value) at false ≡ eqb (bit_at value (width - 1 - at)) 1
+pub get_or-bits_of : (width value at : ℕ) → at < width
+    → get_or (bits_of width value) at false ≡ eqb (bit_at value (width - 1 - at)) 1
 get_or-bits_of width value at h =
     get_or-map-range_with_len (λ i. eqb (bit_at value (width - 1 - i)) 1) 0 width at at false h (omega arith)
 
@@ -51,10 +56,10 @@ number_of-push (x ∷ xs) bit =
     ∙ doubled x (2 ^ length xs) (number_of xs) (from_bool bit)
 
 -- n bits spell a number below 2 ^ n
-pub number_of-lt : (bits : List Bool) → number_of bits < 2 ^ length bits
-number_of-lt [] = omega arith
-number_of-lt (true ∷ xs) = omega (arith, number_of-lt xs, pow-succ' 2 (length xs))
-number_of-lt (false ∷ xs) = omega (arith, number_of-lt xs, pow-succ' 2 (length xs))
+pub number_of_lt : (bits : List Bool) → number_of bits < 2 ^ length bits
+number_of_lt [] = omega arith
+number_of_lt (true ∷ xs) = omega (arith, number_of_lt xs, pow-succ' 2 (length xs))
+number_of_lt (false ∷ xs) = omega (arith, number_of_lt xs, pow-succ' 2 (length xs))
 
 -- one more bit is read
 pub one_more_read : (row : List Bool) (place at number : ℕ) (bit : Bool) (digit : ℕ) → place + at < length row
@@ -69,17 +74,19 @@ one_more_read row place at number bit digit h so_far read is =
     ∙ ap number_of (sym (take_more (drop place row) at false within))
 
 -- fewer than 32 bits are read, so that one more fits
-pub room_for_digit : (row : List Bool) (place at number digit : ℕ) → at < 32 → number ≡ number_of (take at (drop place row)) → digit < 2
+pub room_for_digit : (row : List Bool) (place at number digit : ℕ) → at < 32 → number ≡ number_of (take at (drop place row))
+    → digit < 2
     → 2 * number + digit < 2 ^ 32
 room_for_digit row place at number digit few so_far small =
     let taken : length (take at (drop place row)) ≤ 31 = omega (arith, length-take at (drop place row)) in
     let two : 0 < 2 = omega arith in
     let below : 2 ^ length (take at (drop place row)) ≤ 2 ^ 31 = pow-le-pow_right two taken in
-    omega (arith, number_of-lt (take at (drop place row)))
+    omega (arith, number_of_lt (take at (drop place row)))
 
-pub from_bool-lt : (bit : Bool) → from_bool bit < 2
-from_bool-lt true = omega arith
-from_bool-lt false = omega arith
+-- a bit as a number is below 2
+pub from_bool_lt : (bit : Bool) → from_bool bit < 2
+from_bool_lt true = omega arith
+from_bool_lt false = omega arith
 
 -- numbers with the same low bits
 pub same_bits : (width a b : ℕ) → ((k : ℕ) → k < width → bit_at a k ≡ bit_at b k) → bits_of width a ≡ bits_of width b
@@ -93,7 +100,8 @@ bits_of-suc width value =
     let f : ℕ → Bool = λ i. eqb (bit_at value (suc width - 1 - i)) 1 in
     let first : suc width - 1 - 0 ≡ width = omega arith in
     let rest : map f (range_with_len 1 width) ≡ bits_of width value =
-    fill_by_all (λ i. eqb (bit_at value (width - 1 - i)) 1) (map f (range_with_len 1 width)) width false (length-map-range_with_len f 1 width)
+    fill_by_all (λ i. eqb (bit_at value (width - 1 - i)) 1) (map f (range_with_len 1 width)) width false
+    (length-map-range_with_len f 1 width)
     (λ i h.
     let place : suc width - 1 - (i + 1) ≡ width - 1 - i = omega arith in
     get_or-map-range_with_len f 1 width i (i + 1) false h (omega arith) ∙ ap (λ (k : ℕ). eqb (bit_at value k) 1) place)
@@ -126,7 +134,7 @@ bits_of-number_of (x ∷ xs) =
     let n : ℕ = length xs in
     let m : ℕ = number_of xs in
     bits_of-suc n (cond x (2 ^ n) 0 + m)
-    ∙ ap (λ (b : Bool). b ∷ bits_of n (cond x (2 ^ n) 0 + m)) (top_bit x n m (number_of-lt xs))
+    ∙ ap (λ (b : Bool). b ∷ bits_of n (cond x (2 ^ n) 0 + m)) (top_bit x n m (number_of_lt xs))
     ∙ ap (λ (bits : List Bool). x ∷ bits) (same_bits n (cond x (2 ^ n) 0 + m) m (low_bits x n m) ∙ bits_of-number_of xs)
 
 -- bits that spell the same number are the same
@@ -152,7 +160,7 @@ number_of-bits_of width value h =
     let spelled : ℕ = number_of (bits_of width value) in
     let below : spelled < 2 ^ width =
     let P : ℕ → Type 0 = λ n. spelled < 2 ^ n in
-    subst P (length-bits_of width value) (number_of-lt (bits_of width value))
+    subst P (length-bits_of width value) (number_of_lt (bits_of width value))
     in
     let again : bits_of width spelled ≡ bits_of width value =
     ap (λ (n : ℕ). bits_of n spelled) (sym (length-bits_of width value)) ∙ bits_of-number_of (bits_of width value)

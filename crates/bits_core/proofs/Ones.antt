@@ -1,13 +1,10 @@
 -- Which binary ones a number has, by the blocks of a power of two that it lies in.
-use Rattle.std.proofs.Common.{ℕ, ◌≡◌, ◌+◌, ◌*◌, ◌^◌, ◌<◌, false, ◌&&◌, inl, inr, ap, ◌∙◌, arith}
+use Rattle.std.proofs.Common.{ℕ, ◌≡◌, ◌+◌, ◌*◌, ◌^◌, ◌<◌, ◌&&◌, inl, inr, ap, ◌∙◌, arith}
 use Rattle.std.specs.Prelude.{bit_and, ◌==◌}
-use Rattle.std.proofs.lemmas.Bool.{eq-eqb}
+use Rattle.std.proofs.lemmas.Bool.{eq-eqb, ne_eqb}
 use Rattle.std.proofs.lemmas.Bool.Decides.{eqb_tells}
 use Rattle.std.proofs.lemmas.Nat.{and_block, and_le_r, same_from_place}
 use Rattle.bits_core.specs.Ones.{contains_ones}
-
-differs : (a b : ℕ) → (a ≡ b → ⊥) → (a == b) ≡ false
-differs a b h = elim (eqb_tells a b) [ inl e ↦ absurd (h e.1) | inr e ↦ e.0 ]
 
 -- two places are one where row and column are
 place_eq : (w a b x s : ℕ) → x < w → s < w → (a * w + x == b * w + s) ≡ ((a == b) && (x == s))
@@ -15,11 +12,12 @@ place_eq w a b x s l m =
     elim (eqb_tells a b) [
       | inl e ↦ elim (eqb_tells x s) [
         | inl f ↦ (rw (e.0, f.0) (eq-eqb (a * w + x) (b * w + s) (ap (λ (i : ℕ). i * w + x) e.1 ∙ ap (λ (i : ℕ). b * w + i) f.1)))
-        | inr f ↦ (rw (e.0, f.0) (differs (a * w + x) (b * w + s) (λ h. f.1 (same_from_place a x b s w l m h).1)))
+        | inr f ↦ (rw (e.0, f.0) (ne_eqb (a * w + x) (b * w + s) (λ h. f.1 (same_from_place a x b s w l m h).1)))
       ]
-      | inr e ↦ (rw e.0 (differs (a * w + x) (b * w + s) (λ h. e.1 (same_from_place a x b s w l m h).0)))
+      | inr e ↦ (rw e.0 (ne_eqb (a * w + x) (b * w + s) (λ h. e.1 (same_from_place a x b s w l m h).0)))
     ]
 
+-- in blocks of a power of two, the ones are contained where those of both the block and the place in it are
 pub contains_block : (k a b r s : ℕ) → r < 2 ^ k → s < 2 ^ k →
     contains_ones (a * 2 ^ k + r) (b * 2 ^ k + s) ≡ (contains_ones a b && contains_ones r s)
 unfolding contains_ones

@@ -1,9 +1,11 @@
 -- One bit of packed words is set or cleared.
-use Rattle.std.proofs.Common.{◌≡◌, ℕ, ◌-◌, ◌*◌, ◌/◌, ◌%◌, ◌^◌, ◌<◌, ◌≢◌, Bool, true, false, eqb, List, length, get_or, set, sym, ap, ◌∙◌, inl, inr, arith, bit_and, bit_or, w64, get_or-set_same, get_or-set_other}
+use Rattle.std.proofs.Common.{◌≡◌, ℕ, ◌-◌, ◌*◌, ◌/◌, ◌%◌, ◌^◌, ◌<◌, ◌≢◌, Bool, true, false, eqb, List, length, get_or, set, sym}
+use Rattle.std.proofs.Common.{ap, ◌∙◌, inl, inr, arith, bit_and, bit_or, w64, get_or-set_same, get_or-set_other}
 use Rattle.std.specs.Int.{bit_at}
 use Rattle.std.proofs.lemmas.Bool.{cases_eq}
 use Rattle.std.proofs.lemmas.Nat.Bits.{bit_at_set_same, bit_at_set_other, bit_at_clear_same, bit_at_clear_other}
-use Rattle.bits_core.specs.Row.{word_bit, IsWritten}
+use Rattle.bits_core.specs.Row.{word_bit}
+use Rattle.bits_core.specs.RowWriting.{IsWritten}
 
 -- a word is replaced by one that differs in one bit at most
 written : (words : List ℕ) (at word : ℕ) (bit : Bool) → at < 64 * length words → eqb (bit_at word (at % 64)) 1 ≡ bit
@@ -25,6 +27,7 @@ written words at word bit h there others =
           ];
     }
 
+-- an or with its place sets a bit
 pub bit_set : (words : List ℕ) (at : ℕ) (bit : Bool) → at < 64 * length words → bit ≡ true
     → IsWritten at bit words (set words (at / 64) (bit_or (get_or words (at / 64) 0) (1 * 2 ^ (at % 64) % 2 ^ 64)))
 bit_set words at bit h e =
@@ -33,6 +36,7 @@ bit_set words at bit h e =
     (ap (λ (b : ℕ). eqb b 1) (bit_at_set_same w64 (get_or words (at / 64) 0) (at % 64) low) ∙ sym e)
     (λ k l ne. bit_at_set_other w64 (get_or words (at / 64) 0) (at % 64) low k ne)
 
+-- an and with all other places clears a bit
 pub bit_cleared : (words : List ℕ) (at : ℕ) (bit : Bool) → at < 64 * length words → bit ≡ false
     → IsWritten at bit words (set words (at / 64) (bit_and (get_or words (at / 64) 0) (2 ^ 64 - 1 - 1 * 2 ^ (at % 64) % 2 ^ 64)))
 bit_cleared words at bit h e =

@@ -1,29 +1,35 @@
 -- Sums modulo 2 of bits.
-use Rattle.std.proofs.Common.{◌≡◌, ℕ, zero, suc, ◌+◌, ◌<◌, Bool, true, false, ◌&&◌, refl, ap, sym, ◌∙◌, arith, add-zero, add-suc}
+use Rattle.std.proofs.Common.{◌≡◌, ℕ, zero, suc, ◌+◌, ◌%◌, ◌<◌, Bool, true, false, eqb, ◌&&◌, refl, ap, sym, ◌∙◌, arith}
+use Rattle.std.proofs.Common.{add-zero, add-suc}
 use Rattle.bits_core.specs.Bits.{plus, sum_below}
 
+-- a bit added twice is nothing
 pub plus_cancel : (a b : Bool) → plus (plus a b) b ≡ a
 plus_cancel true true = refl
 plus_cancel true false = refl
 plus_cancel false true = refl
 plus_cancel false false = refl
 
+-- two bits in either order
 pub plus_comm : (a b : Bool) → plus a b ≡ plus b a
 plus_comm true true = refl
 plus_comm true false = refl
 plus_comm false true = refl
 plus_comm false false = refl
 
+-- nothing is added
 pub plus-false : (a : Bool) → plus a false ≡ a
 plus-false true = refl
 plus-false false = refl
 
+-- three bits, grouped in either way
 pub plus_assoc : (a b c : Bool) → plus (plus a b) c ≡ plus a (plus b c)
 plus_assoc true true true = refl
 plus_assoc true true false = refl
 plus_assoc true false c = refl
 plus_assoc false b c = refl
 
+-- a factor of a sum of two bits
 pub and-plus : (c a b : Bool) → (c && plus a b) ≡ plus (c && a) (c && b)
 and-plus true a b = refl
 and-plus false a b = refl
@@ -47,19 +53,32 @@ plus-plus false false true false = refl
 plus-plus false false false true = refl
 plus-plus false false false false = refl
 
-pub sum_below-same : (n : ℕ) (f g : ℕ → Bool) → ((i : ℕ) → i < n → f i ≡ g i) → sum_below n f ≡ sum_below n g
+-- the sum of two bits as numbers
+pub bit_sum : (a b : ℕ) → a < 2 → b < 2 → eqb ((a + b) % 2) 1 ≡ plus (eqb a 1) (eqb b 1)
+bit_sum zero zero l k = refl
+bit_sum zero (suc zero) l k = refl
+bit_sum (suc zero) zero l k = refl
+bit_sum (suc zero) (suc zero) l k = refl
+bit_sum zero (suc (suc b)) l k = absurd (omega arith)
+bit_sum (suc zero) (suc (suc b)) l k = absurd (omega arith)
+bit_sum (suc (suc a)) b l k = absurd (omega arith)
+
+-- the same terms
+pub sum_below_same : (n : ℕ) (f g : ℕ → Bool) → ((i : ℕ) → i < n → f i ≡ g i) → sum_below n f ≡ sum_below n g
 unfolding sum_below
-sum_below-same zero f g h = refl
-sum_below-same (suc n) f g h =
-    ap (λ (b : Bool). plus b (f n)) (sum_below-same n f g (λ i l. h i (omega arith)))
+sum_below_same zero f g h = refl
+sum_below_same (suc n) f g h =
+    ap (λ (b : Bool). plus b (f n)) (sum_below_same n f g (λ i l. h i (omega arith)))
     ∙ ap (λ (b : Bool). plus (sum_below n g) b) (h n (omega arith))
 
+-- no terms but zeros
 pub sum_below-zero : (n : ℕ) (f : ℕ → Bool) → ((i : ℕ) → i < n → f i ≡ false) → sum_below n f ≡ false
 unfolding sum_below
 sum_below-zero zero f h = refl
 sum_below-zero (suc n) f h =
     ap (λ (b : Bool). plus b (f n)) (sum_below-zero n f (λ i l. h i (omega arith))) ∙ h n (omega arith)
 
+-- the sum of two sums
 pub sum_below-plus : (n : ℕ) (f g : ℕ → Bool) → sum_below n (λ i. plus (f i) (g i)) ≡ plus (sum_below n f) (sum_below n g)
 unfolding sum_below
 sum_below-plus zero f g = refl
@@ -81,16 +100,15 @@ sum_below-add m (suc n) f =
     ∙ ap (λ (b : Bool). plus b (f (m + n))) (sum_below-add m n f)
     ∙ plus_assoc (sum_below m f) (sum_below n (λ i. f (m + i))) (f (m + n))
 
-and-false : (a : Bool) → (a && false) ≡ false
-and-false true = refl
-and-false false = refl
-
-and-true : (a : Bool) → (a && true) ≡ a
-and-true true = refl
-and-true false = refl
+plus-and : (x y b : Bool) → plus (x && b) (y && b) ≡ (plus x y && b)
+plus-and true true true = refl
+plus-and true true false = refl
+plus-and true false b = plus-false b
+plus-and false y b = refl
 
 -- a common factor
 pub sum_below-and : (n : ℕ) (f : ℕ → Bool) (b : Bool) → sum_below n (λ i. f i && b) ≡ (sum_below n f && b)
-sum_below-and n f true = sum_below-same n (λ i. f i && true) f (λ i l. and-true (f i)) ∙ sym (and-true (sum_below n f))
-sum_below-and n f false =
-    sum_below-zero n (λ i. f i && false) (λ i l. and-false (f i)) ∙ sym (and-false (sum_below n f))
+unfolding sum_below
+sum_below-and zero f b = refl
+sum_below-and (suc n) f b =
+    ap (λ (s : Bool). plus s (f n && b)) (sum_below-and n f b) ∙ plus-and (sum_below n f) (f n) b

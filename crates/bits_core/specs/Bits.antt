@@ -1,7 +1,7 @@
 -- Bits, their sums modulo 2, and numbers written in bits.
-use Rattle.std.specs.Prelude.{ℕ, zero, suc, ◌+◌, ◌-◌, ◌^◌, Bool, true, false, not, cond, eqb, List, [], ◌∷◌, length, map, get_or}
+use Rattle.std.specs.Prelude.{ℕ, zero, suc, ◌+◌, ◌-◌, ◌^◌, Bool, true, false, not, cond, List, [], ◌∷◌, length, map, get_or}
 use Rattle.std.specs.List.{range_with_len}
-use Rattle.std.specs.Int.{bit_at}
+use Rattle.bits_core.specs.Ones.{has_one}
 
 -- the sum of two bits modulo 2
 abbrev pub plus : Bool → Bool → Bool
@@ -19,7 +19,7 @@ bit_of bits i = get_or bits i false
 
 -- a number in `width` bits, most significant bit first
 abbrev pub bits_of : ℕ → ℕ → List Bool
-bits_of width value = map (λ i. eqb (bit_at value (width - 1 - i)) 1) (range_with_len 0 width)
+bits_of width value = map (λ i. has_one value (width - 1 - i)) (range_with_len 0 width)
 
 -- the number that bits spell, most significant bit first
 abbrev pub number_of : List Bool → ℕ

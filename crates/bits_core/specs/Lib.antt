@@ -2,3 +2,4 @@ pub mod Bits
 pub mod CodeLengths
 pub mod Ones
 pub mod Row
+pub mod RowWriting

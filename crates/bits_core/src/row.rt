@@ -1,5 +1,6 @@
 //! A row of bits of limited length, packed in words.
-ghost use Rattle.std.specs.Prelude.{◌≡◌, ◌+◌, ◌*◌, ◌^◌, ◌<◌, ◌≤◌, ◌↔◌, Bool, IsTrue, List, [], ◌∷◌, ◌++◌, false, length, slice_index_or, slice_range, slice_set};
+ghost use Rattle.std.specs.Prelude.{◌≡◌, ◌+◌, ◌*◌, ◌^◌, ◌<◌, ◌≤◌, ◌↔◌, Bool, IsTrue, List, [], ◌∷◌, ◌++◌, false};
+ghost use Rattle.std.specs.Prelude.{length, slice_index_or, slice_range, slice_set};
 ghost use Rattle.bits_core.specs.Bits.{bits_of, number_of};
 
 use crate::words::{bit, put};

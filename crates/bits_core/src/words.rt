@@ -1,6 +1,7 @@
 //! Single bits of packed words.
 ghost use Rattle.std.specs.Prelude.{◌≡◌, ◌*◌, ◌<◌, length};
-ghost use Rattle.bits_core.specs.Row.{word_bit, IsWritten};
+ghost use Rattle.bits_core.specs.Row.{word_bit};
+ghost use Rattle.bits_core.specs.RowWriting.{IsWritten};
 
 /// The bit at place `at` of `words`, low place first.
 pub(crate) fn bit(words: &[u64], at: usize) -> bool

@@ -1,31 +1,25 @@
 -- The register as a number of 24 bits.
-use Rattle.std.proofs.Common.{◌≡◌, ℕ, zero, suc, ◌+◌, ◌-◌, ◌*◌, ◌/◌, ◌%◌, ◌^◌, ◌<◌, ◌≤◌, min, Bool, true, false, not, ◌&&◌, eqb, List, length, take, replicate, ◌++◌, bit_and, bit_xor, refl, ap, sym, ◌∙◌, inl, inr, arith}
+use Rattle.std.proofs.Common.{◌≡◌, ℕ, ◌+◌, ◌-◌, ◌*◌, ◌/◌, ◌%◌, ◌^◌, ◌<◌, ◌≤◌, min, Bool, true, false, not, ◌&&◌, eqb}
+use Rattle.std.proofs.Common.{List, length, take, replicate, ◌++◌, bit_and, bit_xor, refl, ap, sym, ◌∙◌, inl, inr, arith}
 use Rattle.std.specs.Int.{bit_at}
 use Rattle.std.specs.Bool.{beq}
 use Rattle.std.proofs.lemmas.Bool.{cases_lt}
-use Rattle.std.proofs.lemmas.List.{take_all, get_or_past, get_or-replicate, get_or_append_left, get_or-append_right, length-replicate}
+use Rattle.std.proofs.lemmas.List.{take_all, get_or_past, get_or-replicate, get_or_append_left, get_or-append_right}
+use Rattle.std.proofs.lemmas.List.{length-replicate}
 use Rattle.std.proofs.lemmas.List.FromFn.{fill_by_all}
 use Rattle.std.proofs.lemmas.Nat.{and_le_r}
-use Rattle.std.proofs.lemmas.Nat.Bits.{bit_at-lt, bit_at_xor, bit_at_and, bit_at_ones, bit_at_above, bit_at_cat_low, bit_at_cat_high}
+use Rattle.std.proofs.lemmas.Nat.Bits.{bit_at-lt, bit_at_xor, bit_at_and, bit_at_ones, bit_at_above, bit_at_cat_low}
+use Rattle.std.proofs.lemmas.Nat.Bits.{bit_at_cat_high}
 use Rattle.bits_core.specs.Bits.{plus, bit_of, bits_of}
 use Rattle.bits_core.proofs.Numbers.{length-bits_of, get_or-bits_of}
-use Rattle.bits_core.proofs.Sums.{plus-false}
+use Rattle.bits_core.proofs.Sums.{bit_sum, plus-false}
 use Rattle.crc_mask.specs.Parity.{generator, mask, masked, parity}
 use Rattle.crc_mask.specs.Register.{advanced}
 
--- the sum of two bits as numbers
-bit_sum : (a b : ℕ) → a < 2 → b < 2 → eqb ((a + b) % 2) 1 ≡ plus (eqb a 1) (eqb b 1)
-bit_sum zero zero l k = refl
-bit_sum zero (suc zero) l k = refl
-bit_sum (suc zero) zero l k = refl
-bit_sum (suc zero) (suc zero) l k = refl
-bit_sum zero (suc (suc b)) l k = absurd (omega arith)
-bit_sum (suc zero) (suc (suc b)) l k = absurd (omega arith)
-bit_sum (suc (suc a)) b l k = absurd (omega arith)
-
 -- the bits of an exclusive or are sums of bits
-pub bit_of-xor : (width a b j : ℕ) → j < width → bit_of (bits_of width (bit_xor a b)) j ≡ plus (bit_of (bits_of width a) j) (bit_of (bits_of width b) j)
-bit_of-xor width a b j h =
+pub bit_of_xor : (width a b j : ℕ) → j < width
+    → bit_of (bits_of width (bit_xor a b)) j ≡ plus (bit_of (bits_of width a) j) (bit_of (bits_of width b) j)
+bit_of_xor width a b j h =
     get_or-bits_of width (bit_xor a b) j h
     ∙ ap (λ (n : ℕ). eqb n 1) (bit_at_xor a b (width - 1 - j))
     ∙ bit_sum (bit_at a (width - 1 - j)) (bit_at b (width - 1 - j)) (bit_at-lt a (width - 1 - j)) (bit_at-lt b (width - 1 - j))
@@ -39,8 +33,9 @@ min-one n h = omega arith
 abbrev pub moved : ℕ → ℕ
 moved r = bit_and (r * 2 ^ 1 % 2 ^ 32) (2 ^ 24 - 1)
 
-pub moved-lt : (r : ℕ) → moved r < 2 ^ 24
-moved-lt r = omega (arith, and_le_r (r * 2 ^ 1 % 2 ^ 32) (2 ^ 24 - 1))
+-- a register that was moved has 24 bits
+pub moved_lt : (r : ℕ) → moved r < 2 ^ 24
+moved_lt r = omega (arith, and_le_r (r * 2 ^ 1 % 2 ^ 32) (2 ^ 24 - 1))
 
 bit_at-moved : (r b : ℕ) → r < 2 ^ 24 → b < 24 → bit_at (moved r) b ≡ bit_at (r * 2 ^ 1 + 0) b
 bit_at-moved r b small h =
@@ -72,8 +67,8 @@ bit_of-moved r j small h =
     ]
 
 -- the bit that leaves
-bit_of-left : (r : ℕ) → r < 2 ^ 24 → bit_of (bits_of 24 r) 0 ≡ eqb (r / 2 ^ 23) 1
-bit_of-left r small =
+bit_of_left : (r : ℕ) → r < 2 ^ 24 → bit_of (bits_of 24 r) 0 ≡ eqb (r / 2 ^ 23) 1
+bit_of_left r small =
     let top : bit_at r 23 ≡ r / 2 ^ 23 = omega arith in
     get_or-bits_of 24 r 0 (omega arith) ∙ ap (λ (n : ℕ). eqb n 1) top
 
@@ -82,35 +77,38 @@ advanced_from : (r new : ℕ) (bit s : Bool) → r < 2 ^ 24 → plus (eqb (r / 2
     → bits_of 24 new ≡ advanced (bits_of 24 r) bit
 unfolding advanced
 advanced_from r new bit s small is each =
-    let first : plus (bit_of (bits_of 24 r) 0) bit ≡ s = ap (λ (b : Bool). plus b bit) (bit_of-left r small) ∙ is in
-    fill_by_all (λ j. plus (bit_of (bits_of 24 r) (j + 1)) (plus (bit_of (bits_of 24 r) 0) bit && bit_of generator j)) (bits_of 24 new) 24 false (length-bits_of 24 new)
+    let first : plus (bit_of (bits_of 24 r) 0) bit ≡ s = ap (λ (b : Bool). plus b bit) (bit_of_left r small) ∙ is in
+    fill_by_all (λ j. plus (bit_of (bits_of 24 r) (j + 1)) (plus (bit_of (bits_of 24 r) 0) bit && bit_of generator j))
+    (bits_of 24 new) 24 false (length-bits_of 24 new)
     (λ j h. each j h ∙ ap (λ (b : Bool). plus (bit_of (bits_of 24 r) (j + 1)) (b && bit_of generator j)) (sym first))
 
-plus-not_beq : (a b : Bool) → plus a b ≡ not (beq a b)
-plus-not_beq true true = refl
-plus-not_beq true false = refl
-plus-not_beq false true = refl
-plus-not_beq false false = refl
+plus_not_beq : (a b : Bool) → plus a b ≡ not (beq a b)
+plus_not_beq true true = refl
+plus_not_beq true false = refl
+plus_not_beq false true = refl
+plus_not_beq false false = refl
 
 -- the bit that leaves is the one that comes
-pub advanced_same : (r : ℕ) (bit : Bool) → r < 2 ^ 24 → beq (eqb (r / 2 ^ 23) 1) bit ≡ true → bits_of 24 (moved r) ≡ advanced (bits_of 24 r) bit
+pub advanced_same : (r : ℕ) (bit : Bool) → r < 2 ^ 24 → beq (eqb (r / 2 ^ 23) 1) bit ≡ true
+    → bits_of 24 (moved r) ≡ advanced (bits_of 24 r) bit
 advanced_same r bit small e =
-    advanced_from r (moved r) bit false small (plus-not_beq (eqb (r / 2 ^ 23) 1) bit ∙ ap not e)
+    advanced_from r (moved r) bit false small (plus_not_beq (eqb (r / 2 ^ 23) 1) bit ∙ ap not e)
     (λ j h. bit_of-moved r j small h ∙ sym (plus-false (bit_of (bits_of 24 r) (j + 1))))
 
-generator-is : generator ≡ bits_of 24 0xb2b117
+-- the generator in hexadecimal
+generator_is : generator ≡ bits_of 24 0xb2b117
 unfolding generator
-generator-is = refl
+generator_is = refl
 
 -- they differ
 pub advanced_other : (r : ℕ) (bit : Bool) → r < 2 ^ 24 → beq (eqb (r / 2 ^ 23) 1) bit ≡ false
     → bits_of 24 (bit_xor (moved r) 0xb2b117) ≡ advanced (bits_of 24 r) bit
 advanced_other r bit small e =
-    advanced_from r (bit_xor (moved r) 0xb2b117) bit true small (plus-not_beq (eqb (r / 2 ^ 23) 1) bit ∙ ap not e)
+    advanced_from r (bit_xor (moved r) 0xb2b117) bit true small (plus_not_beq (eqb (r / 2 ^ 23) 1) bit ∙ ap not e)
     (λ j h.
-    bit_of-xor 24 (moved r) 0xb2b117 j h
+    bit_of_xor 24 (moved r) 0xb2b117 j h
     ∙ ap (λ (b : Bool). plus b (bit_of (bits_of 24 0xb2b117) j)) (bit_of-moved r j small h)
-    ∙ ap (λ (g : List Bool). plus (bit_of (bits_of 24 r) (j + 1)) (bit_of g j)) (sym generator-is))
+    ∙ ap (λ (g : List Bool). plus (bit_of (bits_of 24 r) (j + 1)) (bit_of g j)) (sym generator_is))
 
 -- the identity in 24 bits
 bit_of-mask : (rnti j : ℕ) → rnti < 2 ^ 16 → j < 24 → bit_of (mask rnti) j ≡ bit_of (bits_of 24 rnti) j
@@ -131,21 +129,23 @@ bit_of-mask rnti j small h =
     ]
 
 -- the parity and the identity as numbers, added
-pub masked-numbers : (payload : List Bool) (number rnti : ℕ) → bits_of 24 number ≡ parity payload → rnti < 2 ^ 16
+pub masked_numbers : (payload : List Bool) (number rnti : ℕ) → bits_of 24 number ≡ parity payload → rnti < 2 ^ 16
     → payload ++ bits_of 24 (bit_xor number rnti) ≡ masked payload rnti
 unfolding masked
-masked-numbers payload number rnti e small =
+masked_numbers payload number rnti e small =
     ap (λ (bits : List Bool). payload ++ bits)
-    (fill_by_all (λ j. plus (bit_of (parity payload) j) (bit_of (mask rnti) j)) (bits_of 24 (bit_xor number rnti)) 24 false (length-bits_of 24 (bit_xor number rnti))
+    (fill_by_all (λ j. plus (bit_of (parity payload) j) (bit_of (mask rnti) j)) (bits_of 24 (bit_xor number rnti)) 24 false
+    (length-bits_of 24 (bit_xor number rnti))
     (λ j h.
-    bit_of-xor 24 number rnti j h
+    bit_of_xor 24 number rnti j h
     ∙ ap (λ (bits : List Bool). plus (bit_of bits j) (bit_of (bits_of 24 rnti) j)) e
     ∙ ap (λ (b : Bool). plus (bit_of (parity payload) j) b) (sym (bit_of-mask rnti j small h))))
 
 -- a block is its payload, then the number of the masked parity
 pub attached : (payload block : List Bool) (at number rnti other : ℕ) → length payload ≤ at → block ≡ take at payload
-    → bits_of 24 number ≡ parity payload → other ≡ rnti → rnti < 2 ^ 16 → block ++ bits_of 24 (bit_xor number other) ≡ masked payload rnti
+    → bits_of 24 number ≡ parity payload → other ≡ rnti → rnti < 2 ^ 16
+    → block ++ bits_of 24 (bit_xor number other) ≡ masked payload rnti
 attached payload block at number rnti other done is e same small =
     ap (λ (bits : List Bool). bits ++ bits_of 24 (bit_xor number other)) (is ∙ take_all at payload done)
     ∙ ap (λ (n : ℕ). payload ++ bits_of 24 (bit_xor number n)) same
-    ∙ masked-numbers payload number rnti e small
+    ∙ masked_numbers payload number rnti e small

@@ -11,7 +11,8 @@ exponents = 23 ∷ 21 ∷ 20 ∷ 17 ∷ 15 ∷ 13 ∷ 12 ∷ 8 ∷ 4 ∷ 2 ∷ 1
 unfoldable pub generator : List Bool
 generator = map (λ j. list_any (eqb (23 - j)) exponents) (range_with_len 0 24)
 
--- D times a remainder, reduced again: the bits move one place to the left, and a 1 that falls out adds the generator's other 24 bits
+-- D times a remainder, reduced again: the bits move one place to the left, and a 1 that falls out adds the generator's other 24
+-- bits
 unfoldable pub times_d : List Bool → List Bool
 times_d r = map (λ j. plus (bit_of r (j + 1)) (bit_of r 0 && bit_of generator j)) (range_with_len 0 24)
 
@@ -21,12 +22,18 @@ remainder zero = bits_of 24 1
 remainder (suc k) = times_d (remainder k)
 
 -- what the parity is computed over: 24 ones, then the payload
-abbrev pub protected : List Bool → List Bool
-protected payload = replicate 24 true ++ payload
+abbrev pub covered : List Bool → List Bool
+covered payload = replicate 24 true ++ payload
 
--- the parity: the sum of D^(A + 47 - i) modulo the generator over the places i of the ones, where the payload has A bits
+-- bit j of the parity: of the sum of D^(A + 47 - i) modulo the generator over the places i of the ones, where the payload
+-- has A bits
+abbrev pub parity_bit : List Bool → ℕ → Bool
+parity_bit payload j =
+    sum_below (length payload + 24) (λ i. bit_of (covered payload) i && bit_of (remainder (length payload + 47 - i)) j)
+
+-- the 24 parity bits
 unfoldable pub parity : List Bool → List Bool
-parity payload = map (λ j. sum_below (length payload + 24) (λ i. bit_of (protected payload) i && bit_of (remainder (length payload + 47 - i)) j)) (range_with_len 0 24)
+parity payload = map (parity_bit payload) (range_with_len 0 24)
 
 -- 24 bits of which the last 16 are the identity
 abbrev pub mask : ℕ → List Bool

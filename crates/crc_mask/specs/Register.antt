@@ -1,4 +1,4 @@
--- The parity register: 24 bits, most significant first.
+-- Of the code, not of the standard: the parity register, 24 bits, most significant first.
 use Rattle.std.specs.Prelude.{◌+◌, Bool, ◌&&◌, List, map}
 use Rattle.std.specs.List.{range_with_len}
 use Rattle.bits_core.specs.Bits.{plus, bit_of}

@@ -1,16 +1,16 @@
 -- The pseudo-random sequence of 3GPP TS 38.211, 5.2.1. Two registers of 31 bits are shifted, and their low bits are added.
 -- A register is a number: with x(n) in its low bit, it has x(n + k) in bit k, for k below 31.
-use Rattle.std.specs.Prelude.{◌≡◌, ℕ, zero, suc, ◌+◌, ◌*◌, ◌/◌, ◌%◌, ◌^◌, ◌<◌, ◌≤◌, Bool, eqb, List, map}
+use Rattle.std.specs.Prelude.{ℕ, zero, suc, ◌+◌, ◌*◌, ◌/◌, ◌%◌, ◌^◌, Bool, eqb, List, map}
 use Rattle.std.specs.List.{range_with_len}
 use Rattle.bits_core.specs.Bits.{plus}
 
 -- the first register one step on: its top bit becomes x(n + 3) + x(n)
 abbrev pub next1 : ℕ → ℕ
-next1 x = x / 2 + (x / 8 + x) % 2 * 1073741824
+next1 x = x / 2 + (x / 8 + x) % 2 * 2 ^ 30
 
 -- the second register one step on: its top bit becomes x(n + 3) + x(n + 2) + x(n + 1) + x(n)
 abbrev pub next2 : ℕ → ℕ
-next2 x = x / 2 + (x / 8 + x / 4 + x / 2 + x) % 2 * 1073741824
+next2 x = x / 2 + (x / 8 + x / 4 + x / 2 + x) % 2 * 2 ^ 30
 
 -- the first register after n steps, from 1
 unfoldable pub state1 : ℕ → ℕ
@@ -42,15 +42,3 @@ gold_bits c place count = map (λ i. gold c (place + i)) (range_with_len 0 count
 pub record GoldValue : Type 0 where
   pub c_init : ℕ
   pub at : ℕ
-
--- both registers after n steps, each of 31 bits
-pub record AreStates (c n first second : ℕ) : Type 0 where
-  pub first_is : first ≡ state1 n
-  pub second_is : second ≡ state2 c n
-  pub first_small : first < 2 ^ 31
-  pub second_small : second < 2 ^ 31
-
--- the registers stand before bit `place` of the sequence with the start value c
-pub record IsStanding (c place first second : ℕ) : Type 0 where
-  pub states : AreStates c (place + 1600) first second
-  pub within : place ≤ 2 ^ 30

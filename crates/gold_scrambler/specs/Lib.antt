@@ -1,2 +1,3 @@
 pub mod Gold
 pub mod Sequence
+pub mod Standing

@@ -1,7 +1,8 @@
 -- What 3GPP TS 38.211, 5.2.1 says of the sequence, in its own terms: two recurrences, their first 31 bits, and the sum.
-use Rattle.std.specs.Prelude.{◌≡◌, ℕ, ◌+◌, ◌^◌, ◌<◌, true, false, eqb}
-use Rattle.std.specs.Int.{bit_at}
+-- The first four sentences fix x1 and x2 whole, and the fifth the sequence: whoever reads them needs no register.
+use Rattle.std.specs.Prelude.{◌≡◌, ℕ, ◌+◌, ◌^◌, ◌<◌, true, false}
 use Rattle.bits_core.specs.Bits.{plus}
+use Rattle.bits_core.specs.Ones.{has_one}
 use Rattle.gold_scrambler.specs.Gold.{x1, x2, gold}
 
 -- x1(n + 31) = x1(n + 3) + x1(n)
@@ -19,7 +20,7 @@ FirstBegins = (x1 0 ≡ true) × ((n : ℕ) → 0 < n → n < 31 → x1 n ≡ fa
 
 -- the second sequence begins with the 31 bits of the start value, low bit first
 abbrev pub SecondBegins : Type 0
-SecondBegins = (c n : ℕ) → n < 31 → x2 c n ≡ eqb (bit_at c n) 1
+SecondBegins = (c n : ℕ) → n < 31 → x2 c n ≡ has_one c n
 
 -- c(n) = x1(n + 1600) + x2(n + 1600)
 abbrev pub GoldIsSum : Type 0

@@ -24,7 +24,8 @@ pub struct Gold {
 
 impl Model for Gold {
     ghost use Rattle.std.specs.Prelude.{◌+◌, ◌^◌, ◌<◌, ◌≤◌};
-    ghost use Rattle.gold_scrambler.specs.Gold.{GoldValue, IsStanding};
+    ghost use Rattle.gold_scrambler.specs.Gold.{GoldValue};
+    ghost use Rattle.gold_scrambler.specs.Standing.{IsStanding};
 
     ghost Value = { GoldValue };
 

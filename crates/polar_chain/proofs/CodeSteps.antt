@@ -4,15 +4,15 @@ use Rattle.std.specs.Prelude.{IsTrue}
 use Rattle.bits_core.specs.Bits.{bit_of}
 use Rattle.bits_core.specs.CodeLengths.{is_code_length}
 use Rattle.polar_kernel.specs.MatrixWord.{matrix_word, word_at}
-use Rattle.polar_kernel.proofs.Words.{bit_of-matrix_word, length-matrix_word, word_at-same}
+use Rattle.polar_kernel.proofs.Words.{bit_of-matrix_word, length-matrix_word, word_at_same}
 use Rattle.polar_sets.specs.CodeSets.{IsInformation}
-use Rattle.polar_sets.specs.InputOrder.{interleaved}
-use Rattle.rate_match.specs.BlockOrder.{position_at}
+use Rattle.polar_sets.specs.InputOrder.{in_input_order}
+use Rattle.rate_match.specs.SubblockOrder.{position_at}
 use Rattle.rate_match.specs.RateMatching.{selected, sent_place}
 use Rattle.rate_match.specs.Received.{IsUnselected}
-use Rattle.rate_match.proofs.Blocks.{position_below}
+use Rattle.rate_match.proofs.Subblocks.{position_below}
 use Rattle.rate_match.proofs.Places.{position_once}
-use Rattle.rate_match.proofs.Selected.{selected-same}
+use Rattle.rate_match.proofs.Selected.{selected_same}
 use Rattle.rate_match.proofs.Unselected.{positive}
 use Rattle.polar_chain.specs.CodeOfBlock.{code_of, laid}
 use Rattle.polar_chain.specs.CodeShape.{CodeShape, IsCode, coded, word_len}
@@ -27,37 +27,41 @@ bit_of_word : (n : ℕ) (u : List Bool) (j : ℕ) → length u ≡ n → j < n �
 bit_of_word n u j long l =
     bit_of-matrix_word u j (omega arith) ∙ ap (λ (x : ℕ). word_at x (bit_of u) j) long
 
-coded-unfolded : (s : CodeShape) (n : ℕ) (c : List Bool) → n ≡ word_len s →
+coded_unfolded : (s : CodeShape) (n : ℕ) (c : List Bool) → n ≡ word_len s →
     code_of n s.block_len s.coded_len s.order (bit_of s.positions) c ≡ coded s c
 unfolding coded
-coded-unfolded s n c size = ap (λ (x : ℕ). code_of x s.block_len s.coded_len s.order (bit_of s.positions) c) size
+coded_unfolded s n c size = ap (λ (x : ℕ). code_of x s.block_len s.coded_len s.order (bit_of s.positions) c) size
 
 -- the bits sent of the word of the laid bits are the code
-pub coded_is : (s : CodeShape) (n : ℕ) (c word moved out : List Bool) → IsTrue (is_code_length n) → n ≡ word_len s → length word ≡ n →
-    ((i : ℕ) → i < length word → bit_of word i ≡ laid (bit_of s.positions) (interleaved s.order c) i) → moved ≡ matrix_word word →
+pub coded_is : (s : CodeShape) (n : ℕ) (c word moved out : List Bool) → IsTrue (is_code_length n) → n ≡ word_len s
+    → length word ≡ n →
+    ((i : ℕ) → i < length word → bit_of word i ≡ laid (bit_of s.positions) (in_input_order s.order c) i)
+    → moved ≡ matrix_word word →
     out ≡ selected n s.block_len s.coded_len (bit_of moved) → out ≡ coded s c
 unfolding code_of
 coded_is s n c word moved out legal size long bits moved_is out_is =
-    let u = laid (bit_of s.positions) (interleaved s.order c) in
+    let u = laid (bit_of s.positions) (in_input_order s.order c) in
     out_is
-    ∙ selected-same n s.block_len s.coded_len (bit_of moved) (word_at n u)
+    ∙ selected_same n s.block_len s.coded_len (bit_of moved) (word_at n u)
     (λ i l.
     let p = position_at n (sent_place n s.block_len s.coded_len i) in
     let below : p < n = position_below n (sent_place n s.block_len s.coded_len i) legal in
     ap (λ (w : List Bool). bit_of w p) moved_is
     ∙ bit_of_word n word p long below
-    ∙ word_at-same n (bit_of word) u p (λ j b. bits j (omega arith)))
-    ∙ coded-unfolded s n c size
+    ∙ word_at_same n (bit_of word) u p (λ j b. bits j (omega arith)))
+    ∙ coded_unfolded s n c size
 
 -- what `unselect` leaves is the word of the received bits
-pub word_received : (n k : ℕ) (bits d : List Bool) → IsTrue (is_code_length n) → IsUnselected n k bits d → IsWordOf n k (length bits) bits (bit_of d)
+pub word_received : (n k : ℕ) (bits d : List Bool) → IsTrue (is_code_length n) → IsUnselected n k bits d
+    → IsWordOf n k (length bits) bits (bit_of d)
 word_received n k bits d legal q = record {
   sent = q.received;
   quiet =
       λ m known none. q.empty (position_at n m)
       (λ i l same.
       let sent = known_of_sent n k (length bits) i (positive n legal) l in
-      let once : sent_place n k (length bits) i ≡ m = position_once n (sent_place n k (length bits) i) m legal sent.below known.below same in
+      let once : sent_place n k (length bits) i
+      ≡ m = position_once n (sent_place n k (length bits) i) m legal sent.below known.below same in
       none.none i l (omega arith));
 }
 
@@ -71,11 +75,13 @@ input_long : (n k : ℕ) (bits word : List Bool) → IsInput n k bits word → l
 input_long n k bits word q =
     ap (λ (w : List Bool). length w) q.word_is ∙ length-matrix_word q.received ∙ q.unselected.length_is
 
-input_at : (n k : ℕ) (bits word : List Bool) (q : IsInput n k bits word) (p : ℕ) → p < n → bit_of word p ≡ word_at n (bit_of q.received) p
+input_at : (n k : ℕ) (bits word : List Bool) (q : IsInput n k bits word) (p : ℕ) → p < n
+    → bit_of word p ≡ word_at n (bit_of q.received) p
 input_at n k bits word q p l =
     ap (λ (w : List Bool). bit_of w p) q.word_is ∙ bit_of_word n q.received p q.unselected.length_is l
 
-information_at : (s : CodeShape) (n : ℕ) → IsCode s → n ≡ word_len s → IsInformation n s.block_len s.coded_len (bit_of s.positions)
+information_at : (s : CodeShape) (n : ℕ) → IsCode s → n ≡ word_len s
+    → IsInformation n s.block_len s.coded_len (bit_of s.positions)
 information_at s n q size =
     subst (λ (x : ℕ). IsInformation x s.block_len s.coded_len (bit_of s.positions)) (sym size) q.positions_are
 
@@ -94,10 +100,11 @@ none_of_others s n bits word q legal size long input not_zero c h =
     let zeros =
     others_of_code n s.block_len s.coded_len s.order info bits c (bit_of input.received) legal
     (information_at s n q size) (received_at s n bits word legal long input)
-    (coded-unfolded s n c size ∙ h.1) in
+    (coded_unfolded s n c size ∙ h.1) in
     let inside : (m : ℕ) → position_at n m < n = λ m. position_below n m legal in
     not_zero
-    (subst (λ (x : ℕ). OthersAreZero x s.block_len s.coded_len info (bit_of word)) (sym (input_long n s.block_len bits word input))
+    (subst (λ (x : ℕ). OthersAreZero x s.block_len s.coded_len info (bit_of word))
+    (sym (input_long n s.block_len bits word input))
     (record { each = λ m known f. input_at n s.block_len bits word input (position_at n m) (inside m) ∙ zeros.each m known f }))
 
 -- and where each is 0, they are the code of the block that is read
@@ -114,8 +121,8 @@ block_is_read s n bits word c q legal size long input zeros wide is =
     let inside : (m : ℕ) → position_at n m < n = λ m. position_below n m legal in
     let others : OthersAreZero n k e info (bit_of word) = subst (λ (x : ℕ). OthersAreZero x k e info (bit_of word)) all zeros in
     let read : IsRead n s.order info (bit_of word) c = subst (λ (x : ℕ). IsRead x s.order info (bit_of word) c) all is in (
-      wide ∙ q.order_is.length_is,
-      sym (coded-unfolded s n c size)
+      wide ∙ q.order_is.long,
+      sym (coded_unfolded s n c size)
           ∙ code_of_read n k e s.order info bits c d legal q.order_is (information_at s n q size) long
           (received_at s n bits word legal long input)
           (record { each = λ m known f. sym (input_at n k bits word input (position_at n m) (inside m)) ∙ others.each m known f })

@@ -7,12 +7,12 @@ use Rattle.bits_core.specs.Bits.{bit_of}
 use Rattle.bits_core.specs.CodeLengths.{is_code_length}
 use Rattle.polar_kernel.specs.MatrixWord.{word_at}
 use Rattle.polar_kernel.specs.Upward.{IsUpward}
-use Rattle.polar_kernel.proofs.WordsWithin.{word_at-own, word_at-within, word_at-zero}
+use Rattle.polar_kernel.proofs.WordsWithin.{word_at-own, word_at_within, word_at-zero}
 use Rattle.polar_sets.specs.CodeSets.{IsInformation}
-use Rattle.polar_sets.specs.InputOrder.{interleaved}
-use Rattle.rate_match.specs.BlockOrder.{position_at}
+use Rattle.polar_sets.specs.InputOrder.{in_input_order}
+use Rattle.rate_match.specs.SubblockOrder.{position_at}
 use Rattle.rate_match.specs.RateMatching.{selected, sent_place}
-use Rattle.rate_match.proofs.Blocks.{position_below}
+use Rattle.rate_match.proofs.Subblocks.{position_below}
 use Rattle.rate_match.proofs.Places.{place_below, place_of, place_of-position_at, position_at-place_of}
 use Rattle.rate_match.proofs.Rises.{place_rises}
 use Rattle.rate_match.proofs.Selected.{bit_of-selected, selected_by_each}
@@ -38,9 +38,11 @@ pub record IsWordOf (n k e : ℕ) (bits : List Bool) (d : ℕ → Bool) : Type 0
 pub record Agrees (n k e : ℕ) (f g : ℕ → Bool) : Type 0 where
   pub each : (m : ℕ) → IsKnown n k e m → f (position_at n m) ≡ g (position_at n m)
 
+-- agreement in the other direction
 pub agrees_back : (n k e : ℕ) (f g : ℕ → Bool) → Agrees n k e f g → Agrees n k e g f
 agrees_back n k e f g a = record { each = λ m q. sym (a.each m q) }
 
+-- agreement through a third
 pub agrees_through : (n k e : ℕ) (f g h : ℕ → Bool) → Agrees n k e f g → Agrees n k e g h → Agrees n k e f h
 agrees_through n k e f g h a b = record { each = λ m q. a.each m q ∙ b.each m q }
 
@@ -69,9 +71,10 @@ pub words_agree : (n k e : ℕ) (f g : ℕ → Bool) → IsTrue (is_code_length 
 words_agree n k e f g h a = record {
   each =
       λ m q.
-      word_at-within n (λ p. leb (first_known n k e) (place_of n p)) f g (upward_from n (first_known n k e) h)
+      word_at_within n (λ p. leb (first_known n k e) (place_of n p)) f g (upward_from n (first_known n k e) h)
       (λ i b t.
-      let known : IsKnown n k e (place_of n i) = record { from = leb-true (first_known n k e) (place_of n i) t; below = place_below n i h b } in
+      let known : IsKnown n k e (place_of n i) =
+      record { from = leb-true (first_known n k e) (place_of n i) t; below = place_below n i h b } in
       subst (λ (x : ℕ). f x ≡ g x) (position_at-place_of n i h b) (a.each (place_of n i) known))
       (position_at n m) (position_below n m h) (known_at n k e m h q);
 }
@@ -88,7 +91,8 @@ none_laid n k e m i info bits h q none b t =
       | inl f ↦
           let (j, l, at) = q.is_sent i f in
           let known = known_of_sent n k e j (positive n h) l in
-          let is : sent_place n k e j ≡ place_of n i = sym (place_of-position_at n (sent_place n k e j) h known.below) ∙ ap (place_of n) at in
+          let is : sent_place n k e j ≡ place_of n i = sym (place_of-position_at n (sent_place n k e j) h known.below)
+          ∙ ap (place_of n) at in
           let le = leb-true m (place_of n i) t in
           absurd (none.none j l (omega arith))
       | inr f ↦ laid-none info bits i f
@@ -108,7 +112,8 @@ word_of_sent n k e info bits h q = record {
 }
 
 -- bits of that length are what is sent of each word that agrees with what they leave
-pub sent_of_word : (n k e : ℕ) (bits : List Bool) (d w : ℕ → Bool) → 0 < n → length bits ≡ e → IsWordOf n k e bits d → Agrees n k e w d →
+pub sent_of_word : (n k e : ℕ) (bits : List Bool) (d w : ℕ → Bool) → 0 < n → length bits ≡ e → IsWordOf n k e bits d
+    → Agrees n k e w d →
     selected n k e w ≡ bits
 sent_of_word n k e bits d w z long q a =
     sym
@@ -118,12 +123,12 @@ sent_of_word n k e bits d w z long q a =
 -- where the received bits are the code of a block, the word of what they leave has the block's input bits
 pub input_of_code : (n k e : ℕ) (order : List ℕ) (info : ℕ → Bool) (bits c : List Bool) (d : ℕ → Bool) →
     IsTrue (is_code_length n) → IsInformation n k e info → IsWordOf n k e bits d →
-    code_of n k e order info c ≡ bits → Agrees n k e (word_at n d) (laid info (interleaved order c))
+    code_of n k e order info c ≡ bits → Agrees n k e (word_at n d) (laid info (in_input_order order c))
 unfolding code_of
 input_of_code n k e order info bits c d h q r same =
-    let u = laid info (interleaved order c) in
+    let u = laid info (in_input_order order c) in
     let sent : IsWordOf n k e bits (word_at n u) =
-    subst (λ (b : List Bool). IsWordOf n k e b (word_at n u)) same (word_of_sent n k e info (interleaved order c) h q) in
+    subst (λ (b : List Bool). IsWordOf n k e b (word_at n u)) same (word_of_sent n k e info (in_input_order order c) h q) in
     agrees_through n k e (word_at n d) (word_at n (word_at n u)) u
     (words_agree n k e d (word_at n u) h (one_word n k e bits d (word_at n u) r sent))
     (word_agrees n k e u h)
@@ -131,10 +136,10 @@ input_of_code n k e order info bits c d h q r same =
 -- and where it has those, they are its code
 pub code_of_input : (n k e : ℕ) (order : List ℕ) (info : ℕ → Bool) (bits c : List Bool) (d : ℕ → Bool) →
     IsTrue (is_code_length n) → length bits ≡ e → IsWordOf n k e bits d →
-    Agrees n k e (word_at n d) (laid info (interleaved order c)) → code_of n k e order info c ≡ bits
+    Agrees n k e (word_at n d) (laid info (in_input_order order c)) → code_of n k e order info c ≡ bits
 unfolding code_of
 code_of_input n k e order info bits c d h long r a =
-    let u = laid info (interleaved order c) in
+    let u = laid info (in_input_order order c) in
     sent_of_word n k e bits d (word_at n u) (positive n h) long r
     (agrees_through n k e (word_at n u) (word_at n (word_at n d)) d
     (words_agree n k e u (word_at n d) h (agrees_back n k e (word_at n d) u a))

@@ -14,6 +14,7 @@ use Rattle.polar_chain.proofs.CodeBlocks.{code_of_once, code_of_repeats, length-
 -- one repeat at most is the first that differs
 pub use Rattle.rate_match.proofs.Repeating.{one_differing}
 
+-- the code of a block has as many bits as are sent
 pub length-code : (s : CodeShape) (c : List Bool) → length (coded s c) ≡ s.coded_len
 unfolding coded
 length-code s c = length-code_of (word_len s) s.block_len s.coded_len s.order (bit_of s.positions) c
@@ -44,13 +45,16 @@ block_repeats s bits c h i g l =
     subst (λ (b : List Bool). RepeatsBelow (word_len s) b s.coded_len) h.1 (code_repeats s c) i g (omega arith)
 
 -- received bits have one answer
-pub one_outcome : (s : CodeShape) (bits : List Bool) (x y : Result (List Bool) NoWord) → IsCode s → IsOutcome s bits x → IsOutcome s bits y → x ≡ y
+pub one_outcome : (s : CodeShape) (bits : List Bool) (x y : Result (List Bool) NoWord) → IsCode s → IsOutcome s bits x
+    → IsOutcome s bits y → x ≡ y
 one_outcome s bits (Ok c) (Ok other) q h g = ap (λ (b : List Bool). Ok b) (block_of s bits c other q h g)
 one_outcome s bits (Ok c) (Err (Repeat at)) q h g = absurd (none_differs (word_len s) bits at (block_repeats s bits c h) g)
 one_outcome s bits (Ok c) (Err Frozen) q h g = absurd (g.1 c h)
 one_outcome s bits (Err (Repeat at)) (Ok c) q h g = absurd (none_differs (word_len s) bits at (block_repeats s bits c g) h)
-one_outcome s bits (Err (Repeat at)) (Err (Repeat other)) q h g = ap (λ (i : ℕ). Err (Repeat i)) (one_differing (word_len s) bits at other h g)
+one_outcome s bits (Err (Repeat at)) (Err (Repeat other)) q h g =
+    ap (λ (i : ℕ). Err (Repeat i)) (one_differing (word_len s) bits at other h g)
 one_outcome s bits (Err (Repeat at)) (Err Frozen) q h g = absurd (none_differs (word_len s) bits at g.0 h)
 one_outcome s bits (Err Frozen) (Ok c) q h g = absurd (h.1 c g)
 one_outcome s bits (Err Frozen) (Err (Repeat at)) q h g = absurd (none_differs (word_len s) bits at h.0 g)
-one_outcome s bits (Err Frozen) (Err Frozen) q h g = let e : ◌≡◌ {A = Result (List Bool) NoWord} (Err Frozen) (Err Frozen) = cc in e
+one_outcome s bits (Err Frozen) (Err Frozen) q h g =
+    let e : ◌≡◌ {A = Result (List Bool) NoWord} (Err Frozen) (Err Frozen) = cc in e

@@ -18,10 +18,10 @@ use Rattle.polar_chain.specs.Decoding.{IsBlockBy, IsBlockOf}
 use Rattle.polar_chain.proofs.CodeBlocks.{code_of_once, code_of_repeats, length-code_of}
 
 -- what is coded by tables is the code by these
-pub coded_by-tables : (reliability input_order : List ℕ) (k e : ℕ) (s : CodeShape) (c : List Bool) →
+pub coded_by_tables : (reliability input_order : List ℕ) (k e : ℕ) (s : CodeShape) (c : List Bool) →
     IsByTables reliability input_order k e s → coded s c ≡ code_by reliability input_order k e c
 unfolding coded code_by
-coded_by-tables reliability input_order k e s c q =
+coded_by_tables reliability input_order k e s c q =
     let code : ℕ → ℕ → List ℕ → (ℕ → Bool) → List Bool = λ x y order info. code_of (length_of x y) x y order info c in
     ap (λ (x : ℕ). code x s.coded_len s.order (bit_of s.positions)) q.block_is
     ∙ ap (λ (x : ℕ). code k x s.order (bit_of s.positions)) q.coded_is
@@ -29,21 +29,24 @@ coded_by-tables reliability input_order k e s c q =
     ∙ ap (code k e (order_from input_order k)) (fun_ext q.positions_by)
 
 -- so is the block of a code
-pub block_by-tables : (reliability input_order : List ℕ) (k e : ℕ) (s : CodeShape) (bits c : List Bool) →
+pub block_by_tables : (reliability input_order : List ℕ) (k e : ℕ) (s : CodeShape) (bits c : List Bool) →
     IsByTables reliability input_order k e s → IsBlockOf s bits c → IsBlockBy reliability input_order k e bits c
-block_by-tables reliability input_order k e s bits c q h = (
+block_by_tables reliability input_order k e s bits c q h = (
   h.0 ∙ q.block_is,
-  sym (coded_by-tables reliability input_order k e s c q) ∙ h.1,
+  sym (coded_by_tables reliability input_order k e s c q) ∙ h.1,
 )
 
-pub block_of-tables : (reliability input_order : List ℕ) (k e : ℕ) (s : CodeShape) (bits c : List Bool) →
+-- a block by the tables is one of the code
+pub block_of_tables : (reliability input_order : List ℕ) (k e : ℕ) (s : CodeShape) (bits c : List Bool) →
     IsByTables reliability input_order k e s → IsBlockBy reliability input_order k e bits c → IsBlockOf s bits c
-block_of-tables reliability input_order k e s bits c q h = (
+block_of_tables reliability input_order k e s bits c q h = (
   h.0 ∙ sym q.block_is,
-  coded_by-tables reliability input_order k e s c q ∙ h.1,
+  coded_by_tables reliability input_order k e s c q ∙ h.1,
 )
 
-pub length-code_by : (reliability input_order : List ℕ) (k e : ℕ) (c : List Bool) → length (code_by reliability input_order k e c) ≡ e
+-- the code by the tables has as many bits as are sent
+pub length-code_by : (reliability input_order : List ℕ) (k e : ℕ) (c : List Bool)
+    → length (code_by reliability input_order k e c) ≡ e
 unfolding code_by
 length-code_by reliability input_order k e c =
     let n = length_of k e in

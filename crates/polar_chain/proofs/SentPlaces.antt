@@ -1,22 +1,26 @@
 -- Each known place of the word is sent, or is 0 with all that follow it.
 use Rattle.std.proofs.Common.{ℕ, ◌≡◌, ◌-◌, ◌*◌, ◌<◌, ◌≤◌, refl, ◌∙◌, arith, inl, inr, ◌⊎◌}
 use Rattle.std.proofs.Math.Nat.{mod-eq_of_lt}
-use Rattle.std.proofs.lemmas.Bool.{cases_lt, le-leb, lt-leb}
+use Rattle.std.proofs.lemmas.Bool.{cases_lt}
 use Rattle.rate_match.specs.RateMatching.{sent_place}
-use Rattle.rate_match.proofs.Sent.{sent_below, sent_punctured, sent_repeated, sent_shortened}
+use Rattle.rate_match.proofs.Sent.{matching_punctured, matching-repeated, matching_shortened, sent_below, sent_punctured}
+use Rattle.rate_match.proofs.Sent.{sent_repeated, sent_shortened}
 use Rattle.polar_chain.specs.KnownPlaces.{IsKnown, first_known}
 
-pub known-repeated : (n k e : ℕ) → n ≤ e → first_known n k e ≡ 0
+-- with repetition all places are known
+pub known_repeated : (n k e : ℕ) → n ≤ e → first_known n k e ≡ 0
 unfolding first_known
-known-repeated n k e h = rw (le-leb n e h) refl
+known_repeated n k e h = rw (matching-repeated n k e h) refl
 
-pub known-punctured : (n k e : ℕ) → e < n → 16 * k ≤ 7 * e → first_known n k e ≡ n - e
+-- with puncturing those behind the places left out
+pub known_punctured : (n k e : ℕ) → e < n → 16 * k ≤ 7 * e → first_known n k e ≡ n - e
 unfolding first_known
-known-punctured n k e h g = rw (lt-leb n e h, le-leb (16 * k) (7 * e) g) refl
+known_punctured n k e h g = rw (matching_punctured n k e h g) refl
 
-pub known-shortened : (n k e : ℕ) → e < n → 7 * e < 16 * k → first_known n k e ≡ 0
+-- with shortening all
+pub known_shortened : (n k e : ℕ) → e < n → 7 * e < 16 * k → first_known n k e ≡ 0
 unfolding first_known
-known-shortened n k e h g = rw (lt-leb n e h, lt-leb (16 * k) (7 * e) g) refl
+known_shortened n k e h g = rw (matching_shortened n k e h g) refl
 
 -- a place that some coded bit has
 pub record IsSent (n k e m : ℕ) : Type 0 where
@@ -34,17 +38,18 @@ known_of_sent n k e i z l = record {
   from =
       elim (cases_lt e n) [
         | inl short ↦ elim (cases_lt (7 * e) (16 * k)) [
-          | inl g ↦ (let f = known-shortened n k e short g in omega arith)
+          | inl g ↦ (let f = known_shortened n k e short g in omega arith)
           | inr g ↦
               let s = sent_punctured n k e i short g in
-              let f = known-punctured n k e short g in
+              let f = known_punctured n k e short g in
               omega arith
         ]
-        | inr long ↦ (let f = known-repeated n k e long in omega arith)
+        | inr long ↦ (let f = known_repeated n k e long in omega arith)
       ];
   below = sent_below n k e i z l;
 }
 
+-- a known place is sent, or no place from it on is
 pub sent_or_not : (n k e m : ℕ) → IsKnown n k e m → IsSent n k e m ⊎ IsUnsentFrom n k e m
 sent_or_not n k e m q =
     let below = q.below in
@@ -56,7 +61,7 @@ sent_or_not n k e m q =
           | inr past ↦ inr (record { none = λ i l h. absurd (let s = sent_shortened n k e i short g in omega arith) })
         ]
         | inr g ↦
-            let f = known-punctured n k e short g in
+            let f = known_punctured n k e short g in
             let s = sent_punctured n k e (m - (n - e)) short g in
             inl (record { bit = m - (n - e); within = omega arith; place_is = s ∙ omega arith })
       ]

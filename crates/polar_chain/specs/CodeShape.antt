@@ -2,10 +2,11 @@
 -- (3GPP TS 38.212, 5.3.1 and 5.4.1).
 use Rattle.std.specs.Prelude.{◌≡◌, ℕ, ◌≤◌, Bool, List}
 use Rattle.bits_core.specs.Bits.{bit_of}
-use Rattle.polar_sets.specs.CodeSets.{IsInformation, IsOrder}
+use Rattle.polar_sets.specs.CodeSets.{IsInformation}
 use Rattle.polar_sets.specs.InformationPositions.{information, is_in}
 use Rattle.polar_sets.specs.InputOrder.{order_from}
 use Rattle.rate_match.specs.MotherCode.{length_of}
+use Rattle.table_files.specs.Permutation.{IsTable}
 use Rattle.polar_chain.specs.CodeOfBlock.{code_of}
 
 -- the numbers of bits of a block and of its code, the input order, and whether each position carries a bit
@@ -33,7 +34,7 @@ pub record IsCode (s : CodeShape) : Type 0 where
   pub few : s.block_len ≤ 164
   pub sent : 1 ≤ s.coded_len
   pub most : s.coded_len ≤ 1728
-  pub order_is : IsOrder s.block_len s.order
+  pub order_is : IsTable s.block_len s.order
   pub positions_are : IsInformation (word_len s) s.block_len s.coded_len (bit_of s.positions)
 
 -- s is the code by two tables: the reliability of the positions, and the input order of 164 bits

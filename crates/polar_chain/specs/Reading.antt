@@ -1,8 +1,9 @@
--- How the bits of a block are read from the input bits of a word (3GPP TS 38.212, 5.3.1).
+-- Of the decoder, not of the standard: how the bits of a block are read from the input bits of a word (3GPP TS 38.212,
+-- 5.3.1). No public clause speaks of it.
 use Rattle.std.specs.Prelude.{◌≡◌, ℕ, ◌<◌, Bool, false, IsTrue, List, slice_index}
 use Rattle.bits_core.specs.Bits.{bit_of}
-use Rattle.polar_sets.specs.Counts.{count_below}
-use Rattle.rate_match.specs.BlockOrder.{position_at}
+use Rattle.list_facts.specs.Counting.{count_below}
+use Rattle.rate_match.specs.SubblockOrder.{position_at}
 use Rattle.polar_chain.specs.KnownPlaces.{IsKnown}
 
 -- the input u is 0 at each known position that carries no bit of a block

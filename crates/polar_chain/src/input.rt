@@ -2,20 +2,20 @@
 ghost use Rattle.bits_core.specs.Bits.{bit_of};
 ghost use Rattle.polar_chain.specs.CodeOfBlock.{laid};
 ghost use Rattle.polar_chain.specs.Reading.{IsRead};
-ghost use Rattle.polar_sets.specs.CodeSets.{IsOrder};
-ghost use Rattle.polar_sets.specs.Counts.{count_below};
-ghost use Rattle.polar_sets.specs.InputOrder.{interleaved};
+ghost use Rattle.list_facts.specs.Counting.{count_below};
+ghost use Rattle.polar_sets.specs.InputOrder.{in_input_order};
 ghost use Rattle.std.specs.Prelude.{ℕ, ◌≡◌, ◌<◌, ◌≤◌, length};
+ghost use Rattle.table_files.specs.Permutation.{IsTable};
 
 use bits_core::Block;
 use polar_sets::PositionSet;
 
 /// Lays the bits of `block` in the input order at the information positions of `word`, and 0 at the others.
 pub(crate) fn lay(block: &Block, order: &[u16], positions: &PositionSet, word: &mut [bool])
-    requires order { IsOrder (length block.now) order.now }
+    requires order { IsTable (length block.now) order.now }
     requires room { count_below (length word.old) (bit_of positions.now) ≤ length block.now }
     ensures { (i : ℕ) → i < length word.new →
-        bit_of word.new i ≡ laid (bit_of positions.now) (interleaved order.now block.now) i }
+        bit_of word.new i ≡ laid (bit_of positions.now) (in_input_order order.now block.now) i }
 {
     let mut turn = 0;
     for at in 0..word.len() {
@@ -30,7 +30,7 @@ pub(crate) fn lay(block: &Block, order: &[u16], positions: &PositionSet, word: &
 
 /// The block whose bits stand in the input order at the information positions of `word`.
 pub(crate) fn read(word: &[bool], order: &[u16], positions: &PositionSet) -> Block
-    requires order { IsOrder (length order.now) order.now }
+    requires order { IsTable (length order.now) order.now }
     requires few { length order.now ≤ 164 }
     requires room { count_below (length word.now) (bit_of positions.now) ≤ length order.now }
     ensures len { length result ≡ length order.now }

@@ -6,7 +6,7 @@ ghost use Rattle.polar_chain.specs.Reading.{OthersAreZero};
 ghost use Rattle.std.specs.Prelude.{◌≡◌, ◌≤◌, ◌↔◌, IsTrue, length};
 
 use polar_sets::PositionSet;
-use rate_match::order_of;
+use rate_match::{Matching, order_of};
 
 /// Whether each known position of `word` that carries no bit of a block is 0.
 pub(crate) fn others_are_zero(word: &[bool], k: usize, e: usize, positions: &PositionSet) -> bool
@@ -26,16 +26,15 @@ pub(crate) fn others_are_zero(word: &[bool], k: usize, e: usize, positions: &Pos
 }
 
 /// The first place in the order of sending that is known: those before it are punctured.
+#[tactic(auto, unfolding(crate::specs::KnownPlaces::first_known))]
 fn first_known(n: usize, k: usize, e: usize) -> usize
     requires longest { k ≤ 164 }
     requires most { e ≤ 1728 }
     ensures { result ≡ first_known n k e }
 {
-    if n <= e {
-        0
-    } else if 16 * k <= 7 * e {
-        n - e
-    } else {
-        0
+    match Matching::of(n, k, e) {
+        Matching::Repeated => 0,
+        Matching::Punctured => n - e,
+        Matching::Shortened => 0,
     }
 }

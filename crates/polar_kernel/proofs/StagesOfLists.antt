@@ -1,5 +1,6 @@
 -- The stages on lists of bits.
-use Rattle.std.proofs.Common.{ℕ, ◌≡◌, ◌*◌, ◌^◌, ◌<◌, ◌≤◌, suc, Bool, false, List, length, refl, ap, subst, sym, ◌∙◌, inl, inr, arith, lit<}
+use Rattle.std.proofs.Common.{ℕ, ◌≡◌, ◌*◌, ◌^◌, ◌<◌, ◌≤◌, suc, Bool, false, List, length, refl, ap, subst, sym, ◌∙◌, inl, inr}
+use Rattle.std.proofs.Common.{arith, lit<}
 use Rattle.std.specs.Prelude.{IsTrue}
 use Rattle.std.proofs.Math.Nat.{pow-suc, pow-le-pow_right, one-le-pow}
 use Rattle.std.proofs.lemmas.Bool.{cases_lt}
@@ -35,6 +36,7 @@ doubled_within t m h =
 some_bits : (u : List Bool) → IsPower (length u) → 1 ≤ length u
 some_bits u q = let le : 1 ≤ 2 ^ q.exponent = one-le-pow q.exponent 2 (lit< tt) in let e = q.power in omega arith
 
+-- before the first stage
 pub none_done : (u : List Bool) → IsTrue (is_code_length (length u)) → IsPartly 1 u u
 none_done u h = record {
   stage = 0;
@@ -63,13 +65,15 @@ within_more n span m t e f l =
     let le = doubled_within t m below in
     omega arith
 
+-- one stage more
 pub one_stage_more : (span : ℕ) (u w v : List Bool) → IsTrue (is_code_length (length u)) → IsPartly span u w → span < length w →
     length v ≡ length w → ((j : ℕ) → j < length w → bit_of v j ≡ staged span (bit_of w) j) → IsPartly (span * 2) u v
 one_stage_more span u w v h p l e after =
     let q = power_of (length u) h in
     let shorter : span < length u = subst (λ (n : ℕ). span < n) p.length_is l in
     let partners : HasPartners (length u) (2 ^ p.stage) =
-    subst (λ (x : ℕ). HasPartners (length u) x) p.span_is (partners_by (length u) span q.exponent p.stage q.power p.span_is shorter) in
+    subst (λ (x : ℕ). HasPartners (length u) x) p.span_is
+    (partners_by (length u) span q.exponent p.stage q.power p.span_is shorter) in
     record {
       stage = suc p.stage;
       span_is = ap (λ (x : ℕ). x * 2) p.span_is ∙ sym (pow-suc 2 p.stage);
@@ -82,6 +86,7 @@ one_stage_more span u w v h p l e after =
           ∙ ap (λ (x : ℕ). staged x (bit_of w) j) p.span_is);
     }
 
+-- after the last stage
 pub all_done : (span : ℕ) (u w : List Bool) → IsPartly span u w → length w ≤ span → w ≡ matrix_word u
 unfolding matrix_word
 all_done span u w p l =

@@ -5,8 +5,8 @@ use Rattle.bits_core.specs.Bits.{bit_of}
 use Rattle.bits_core.proofs.CodeLengths.{power_of}
 use Rattle.polar_kernel.specs.MatrixWord.{matrix_word, word_at}
 use Rattle.polar_kernel.specs.WordLaws.{WordIsOwnInverse}
-use Rattle.polar_kernel.proofs.Halves.{word_at-twice}
-use Rattle.polar_kernel.proofs.Words.{bit_of-matrix_word, length-matrix_word, word_at-same}
+use Rattle.polar_kernel.proofs.Halves.{word_at_twice}
+use Rattle.polar_kernel.proofs.Words.{bit_of-matrix_word, length-matrix_word, word_at_same}
 
 -- bit j of the word of n bits of the word of u
 bit_twice : (u : List Bool) (n m j : ℕ) → length u ≡ 2 ^ m → n ≡ length u → j < n →
@@ -15,12 +15,13 @@ bit_twice u n m j e f l =
     let whole : n ≡ 2 ^ m = f ∙ e in
     sym
     (ap (λ (x : ℕ). word_at x (bit_of (matrix_word u)) j) whole
-    ∙ word_at-same (2 ^ m) (bit_of (matrix_word u)) (word_at (2 ^ m) (bit_of u)) j
+    ∙ word_at_same (2 ^ m) (bit_of (matrix_word u)) (word_at (2 ^ m) (bit_of u)) j
     (λ i b.
     bit_of-matrix_word u i (subst (λ (x : ℕ). i < x) (sym e) b)
     ∙ ap (λ (x : ℕ). word_at x (bit_of u) i) e)
-    ∙ word_at-twice m (bit_of u) j (subst (λ (x : ℕ). j < x) whole l))
+    ∙ word_at_twice m (bit_of u) j (subst (λ (x : ℕ). j < x) whole l))
 
+-- the word of the word is the bits
 pub word_word : WordIsOwnInverse
 unfolding matrix_word
 word_word u h =

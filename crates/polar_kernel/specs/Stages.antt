@@ -1,4 +1,4 @@
--- One stage of the transform: the bits in pairs whose places differ in one binary digit.
+-- Of the code, not of the standard: one stage of the transform, the bits in pairs whose places differ in one binary digit.
 use Rattle.std.specs.Prelude.{◌≡◌, ℕ, ◌+◌, ◌<◌, Bool, ◌==◌, bit_and, if◌then◌else◌}
 use Rattle.bits_core.specs.Bits.{plus}
 

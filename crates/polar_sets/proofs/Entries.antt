@@ -1,19 +1,18 @@
 -- The order in which the bits of a block enter: each bit once, whatever the table is.
-use Rattle.std.proofs.Common.{ℕ, ◌≡◌, ◌+◌, ◌-◌, ◌<◌, ◌≤◌, Bool, true, false, ◌&&◌, ◌||◌, List, [], ◌∷◌, ◌++◌, length, map, take, nat_le, cond, get_or, inl, inr, refl, ap, subst, sym, ◌∙◌, arith, length-append}
+use Rattle.std.proofs.Common.{ℕ, ◌≡◌, ◌+◌, ◌-◌, ◌<◌, ◌≤◌, Bool, true, false, ◌&&◌, ◌||◌, List, [], ◌∷◌, ◌++◌, length, map, take}
+use Rattle.std.proofs.Common.{nat_le, cond, eqb, get_or, inl, inr, refl, ap, subst, sym, ◌∙◌, arith, length-append}
 use Rattle.std.specs.Prelude.{◌==◌, All}
 use Rattle.std.specs.List.{filter}
-use Rattle.std.proofs.lemmas.Bool.{cases_lt, eq-eqb, eqb-true}
+use Rattle.std.proofs.lemmas.Bool.{eq-eqb, le-leb, lt-leb, ne_eqb, or_left, or_right}
 use Rattle.std.proofs.lemmas.Bool.Decides.{eqb_tells}
-use Rattle.std.proofs.lemmas.List.{append-nil, get_or-map, get_or_default, length-map, map-append, take_all}
+use Rattle.std.proofs.lemmas.List.{append-nil, get_or-map, length-map, map-append, take_all}
 use Rattle.std.proofs.lemmas.List.Elements.{All-filter, filter_more, filter_passes}
-use Rattle.std.proofs.lemmas.Map.Views.{Contains-from_any}
-use Rattle.rate_match.proofs.Sent.{at_most, more}
+use Rattle.std.proofs.lemmas.Map.Keys.{IsDistinct-from_apart}
 use Rattle.table_files.specs.Permutation.{IsTable}
-use Rattle.table_files.proofs.Parts.{list_any-flip}
-use Rattle.polar_sets.specs.CodeSets.{IsOrder}
+use Rattle.table_files.proofs.Parts.{list_any_flip}
 use Rattle.polar_sets.specs.InformationPositions.{is_in}
 use Rattle.polar_sets.specs.InputOrder.{order_from}
-use Rattle.polar_sets.proofs.Counting.{AreApart, count_of_list, count_whole}
+use Rattle.list_facts.proofs.Counting.{AreApart, count_of_list, count_whole}
 use Rattle.polar_sets.proofs.Members.{filter_apart, in_filter, in_table, table_apart}
 
 -- the entries that speak of the last bits, `first` being the first of them
@@ -23,7 +22,8 @@ late table first = filter (nat_le first) table
 abbrev order_late : List ℕ → ℕ → List ℕ
 order_late table first = map (λ t. t - first) (late table first)
 
-late_inside : (table : List ℕ) (first i : ℕ) → IsTable 164 table → i < length (late table first) → get_or (late table first) i 0 < 164
+late_inside : (table : List ℕ) (first i : ℕ) → IsTable 164 table → i < length (late table first)
+    → get_or (late table first) i 0 < 164
 late_inside table first i h l = All-filter (nat_le first) (λ t. t < 164) table h.inside i 0 l
 
 late_from : (table : List ℕ) (first i : ℕ) → i < length (late table first) → first ≤ get_or (late table first) i 0
@@ -35,7 +35,8 @@ entry_at : (table : List ℕ) (first i d : ℕ) → i < length (late table first
     get_or (order_late table first) i d ≡ get_or (late table first) i 0 - first
 entry_at table first i d l = get_or-map (λ t. t - first) (late table first) i 0 d l
 
-order_inside : (table : List ℕ) (first : ℕ) → IsTable 164 table → first ≤ 164 → All (λ t. t < 164 - first) (order_late table first)
+order_inside : (table : List ℕ) (first : ℕ) → IsTable 164 table → first ≤ 164
+    → All (λ t. t < 164 - first) (order_late table first)
 order_inside table first h m i d l =
     let long = length-map (late table first) (λ t. t - first) in
     let inside = late_inside table first i h (omega arith) in
@@ -52,14 +53,6 @@ order_apart table first h i j d l m same =
     let and_from = late_from table first j (omega arith) in
     filter_apart (nat_le first) table (table_apart 164 table h) i j 0 l (omega arith) (omega arith)
 
-or_left : (a b : Bool) → a ≡ true → (a || b) ≡ true
-or_left true b h = refl
-or_left false b h = absurd (let f : false ≡ true = h in cc)
-
-or_right : (a b : Bool) → b ≡ true → (a || b) ≡ true
-or_right true b h = refl
-or_right false b h = h
-
 or_rest : (a b : Bool) → a ≡ false → (a || b) ≡ true → b ≡ true
 or_rest true b h g = absurd (let f : true ≡ false = h in cc)
 or_rest false b h g = g
@@ -73,93 +66,95 @@ in_map f (x ∷ xs) t h =
     ]
 
 -- each of the bits is in it
-order_has : (table : List ℕ) (first bit : ℕ) → IsTable 164 table → first ≤ 164 → bit < 164 - first → is_in (order_late table first) bit ≡ true
+order_has : (table : List ℕ) (first bit : ℕ) → IsTable 164 table → first ≤ 164 → bit < 164 - first
+    → is_in (order_late table first) bit ≡ true
 order_has table first bit h m l =
     let member : is_in (late table first) (bit + first) ≡ true =
     in_filter (nat_le first) table (bit + first)
-    ∙ ap (λ (b : Bool). b && is_in table (bit + first)) (at_most first (bit + first) (omega arith))
+    ∙ ap (λ (b : Bool). b && is_in table (bit + first)) (le-leb first (bit + first) (omega arith))
     ∙ in_table 164 table (bit + first) h (omega arith)
     in
     let back : bit + first - first ≡ bit = omega arith in
-    subst (λ (x : ℕ). is_in (order_late table first) x ≡ true) back (in_map (λ t. t - first) (late table first) (bit + first) member)
+    subst (λ (x : ℕ). is_in (order_late table first) x ≡ true) back
+    (in_map (λ t. t - first) (late table first) (bit + first) member)
 
 order_long : (table : List ℕ) (first : ℕ) → IsTable 164 table → first ≤ 164 → length (order_late table first) ≡ 164 - first
 order_long table first h m =
     sym (count_of_list (164 - first) (order_late table first) (order_inside table first h m) (order_apart table first h))
     ∙ count_whole (164 - first) (is_in (order_late table first)) (λ bit l. order_has table first bit h m l)
 
--- two places of a list with no two equal numbers that have one number are one
-one_place : (xs : List ℕ) (i j : ℕ) → AreApart xs → i < length xs → j < length xs → get_or xs i 0 ≡ get_or xs j 0 → i ≡ j
-one_place xs i j apart l g same =
-    elim (cases_lt i j) [
-      | inl f ↦ absurd (apart i j 0 f g same)
-      | inr f ↦ elim (cases_lt j i) [
-        | inl b ↦ absurd (apart j i 0 b l (sym same))
-        | inr b ↦ omega arith
-      ]
-    ]
-
-late_order : (table : List ℕ) (first : ℕ) → IsTable 164 table → first ≤ 164 → IsOrder (164 - first) (order_late table first)
+late_order : (table : List ℕ) (first : ℕ) → IsTable 164 table → first ≤ 164 → IsTable (164 - first) (order_late table first)
 late_order table first h m =
-    let long = order_long table first h m in
+    let order = order_late table first in
     record {
-      length_is = long;
-      inside = λ i l. order_inside table first h m i 0 (omega arith);
-      once = λ i j l g same. one_place (order_late table first) i j (order_apart table first h) (omega arith) (omega arith) same;
-      each =
-          λ bit l.
-          let (i, below, at) = Contains-from_any eqb-true bit (order_late table first) (sym (list_any-flip bit (order_late table first)) ∙ order_has table first bit h m l) in
-          (i, omega arith, get_or_default (order_late table first) i 0 bit below ∙ at);
+      long = order_long table first h m;
+      inside = order_inside table first h m;
+      distinct =
+          IsDistinct-from_apart eqb order
+          (λ i j d l g. ne_eqb (get_or order i d) (get_or order j d) (order_apart table first h i j d l g));
+      each = λ bit l. sym (list_any_flip bit order) ∙ order_has table first bit h m l;
     }
 
-pub order_is : (table : List ℕ) (k : ℕ) → IsTable 164 table → k ≤ 164 → IsOrder k (order_from table k)
+-- the order that a table gives has each bit once
+pub order_is : (table : List ℕ) (k : ℕ) → IsTable 164 table → k ≤ 164 → IsTable k (order_from table k)
 unfolding order_from
 order_is table k h l =
     let whole : 164 - (164 - k) ≡ k = omega arith in
-    subst (λ (x : ℕ). IsOrder x (order_late table (164 - k))) whole (late_order table (164 - k) h (omega arith))
+    subst (λ (x : ℕ). IsTable x (order_late table (164 - k))) whole (late_order table (164 - k) h (omega arith))
 
 -- the order that the first entries give, one entry more
 order_more : (table : List ℕ) (k at : ℕ) → at < length table →
-    order_from (take (at + 1) table) k ≡ order_from (take at table) k ++ map (λ t. t - (164 - k)) (cond (nat_le (164 - k) (get_or table at 0)) (get_or table at 0 ∷ []) [])
+    order_from (take (at + 1) table) k ≡ order_from (take at table) k
+    ++ map (λ t. t - (164 - k)) (cond (nat_le (164 - k) (get_or table at 0)) (get_or table at 0 ∷ []) [])
 unfolding order_from
 order_more table k at l =
     ap (λ (xs : List ℕ). map (λ t. t - (164 - k)) xs) (filter_more (nat_le (164 - k)) table at 0 l)
-    ∙ map-append (λ t. t - (164 - k)) (filter (nat_le (164 - k)) (take at table)) (cond (nat_le (164 - k) (get_or table at 0)) (get_or table at 0 ∷ []) [])
+    ∙ map-append (λ t. t - (164 - k)) (filter (nat_le (164 - k)) (take at table))
+    (cond (nat_le (164 - k) (get_or table at 0)) (get_or table at 0 ∷ []) [])
 
 -- what the first entries give
 pub record IsEntered (table : List ℕ) (k at : ℕ) (order : List ℕ) : Type 0 where
   pub entered : order ≡ order_from (take at table) k
   pub few : length order ≤ at
 
+-- no entry
 pub entered_none : (table : List ℕ) (k : ℕ) → IsEntered table k 0 []
 unfolding order_from
 entered_none table k = record { entered = refl; few = omega arith }
 
-pub entered_more : (table : List ℕ) (k at entry : ℕ) (order : List ℕ) → at < length table → entry ≡ get_or table at 0 → 164 - k ≤ entry →
+-- one entry more, which speaks of the last bits
+pub entered_more : (table : List ℕ) (k at entry : ℕ) (order : List ℕ) → at < length table → entry ≡ get_or table at 0
+    → 164 - k ≤ entry →
     IsEntered table k at order → IsEntered table k (at + 1) (order ++ (entry - (164 - k)) ∷ [])
 entered_more table k at entry order l e h t =
-    let passed : nat_le (164 - k) (get_or table at 0) ≡ true = at_most (164 - k) (get_or table at 0) (omega arith) in
+    let passed : nat_le (164 - k) (get_or table at 0) ≡ true = le-leb (164 - k) (get_or table at 0) (omega arith) in
     record {
       entered =
           ap (λ (xs : List ℕ). xs ++ (entry - (164 - k)) ∷ []) t.entered
           ∙ ap (λ (x : ℕ). order_from (take at table) k ++ (x - (164 - k)) ∷ []) e
-          ∙ ap (λ (b : Bool). order_from (take at table) k ++ map (λ t. t - (164 - k)) (cond b (get_or table at 0 ∷ []) [])) (sym passed)
+          ∙ ap (λ (b : Bool). order_from (take at table) k ++ map (λ t. t - (164 - k)) (cond b (get_or table at 0 ∷ []) []))
+          (sym passed)
           ∙ sym (order_more table k at l);
       few = (let n = length-append order ((entry - (164 - k)) ∷ []) in let f = t.few in omega arith);
     }
 
-pub entered_same : (table : List ℕ) (k at entry : ℕ) (order : List ℕ) → at < length table → entry ≡ get_or table at 0 → entry < 164 - k →
+-- one that doesn't
+pub entered_same : (table : List ℕ) (k at entry : ℕ) (order : List ℕ) → at < length table → entry ≡ get_or table at 0
+    → entry < 164 - k →
     IsEntered table k at order → IsEntered table k (at + 1) order
 entered_same table k at entry order l e h t =
-    let failed : nat_le (164 - k) (get_or table at 0) ≡ false = more (164 - k) (get_or table at 0) (omega arith) in
+    let failed : nat_le (164 - k) (get_or table at 0) ≡ false = lt-leb (164 - k) (get_or table at 0) (omega arith) in
     record {
       entered =
           t.entered
           ∙ sym (append-nil (order_from (take at table) k))
-          ∙ ap (λ (b : Bool). order_from (take at table) k ++ map (λ t. t - (164 - k)) (cond b (get_or table at 0 ∷ []) [])) (sym failed)
+          ∙ ap (λ (b : Bool). order_from (take at table) k ++ map (λ t. t - (164 - k)) (cond b (get_or table at 0 ∷ []) []))
+          (sym failed)
           ∙ sym (order_more table k at l);
       few = (let f = t.few in omega arith);
     }
 
-pub entered_all : (table : List ℕ) (k at : ℕ) (order : List ℕ) → length table ≤ at → IsEntered table k at order → order ≡ order_from table k
+-- all entries
+pub entered_all : (table : List ℕ) (k at : ℕ) (order : List ℕ) → length table ≤ at → IsEntered table k at order
+    → order ≡ order_from table k
 entered_all table k at order l t = t.entered ∙ ap (λ (xs : List ℕ). order_from xs k) (take_all at table l)

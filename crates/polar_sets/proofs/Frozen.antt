@@ -1,25 +1,16 @@
 -- Which positions are free, by the places at which they are sent.
-use Rattle.std.proofs.Common.{ℕ, ◌≡◌, ◌≢◌, ◌+◌, ◌-◌, ◌*◌, ◌<◌, ◌≤◌, Bool, true, false, not, ◌&&◌, ◌||◌, nat_lt, leb, inl, inr, refl, ap, sym, ◌∙◌, arith, get_or}
+use Rattle.std.proofs.Common.{ℕ, ◌≡◌, ◌+◌, ◌-◌, ◌*◌, ◌<◌, ◌≤◌, Bool, true, false, not, ◌&&◌, ◌||◌, nat_lt, leb, inl, inr}
+use Rattle.std.proofs.Common.{refl, ap, sym, ◌∙◌, arith, get_or}
 use Rattle.std.specs.Prelude.{IsTrue, ◌==◌}
 use Rattle.std.specs.List.{range_with_len}
-use Rattle.std.proofs.lemmas.Bool.{cases_lt, eq-eqb}
-use Rattle.std.proofs.lemmas.Bool.Decides.{eqb_tells}
+use Rattle.std.proofs.lemmas.Bool.{cases_lt, eq-eqb, le-ltb, lt-ltb, ne_eqb}
 use Rattle.std.proofs.lemmas.List.Folds.{list_any_at, list_any_none}
 use Rattle.std.proofs.lemmas.List.FromFn.{get_or-range_with_len, length-range_with_len}
 use Rattle.bits_core.specs.CodeLengths.{is_code_length}
-use Rattle.rate_match.specs.BlockOrder.{position_at}
+use Rattle.rate_match.specs.SubblockOrder.{position_at}
 use Rattle.rate_match.proofs.Places.{position_once}
-use Rattle.rate_match.proofs.Sent.{at_most, more}
+use Rattle.rate_match.proofs.Sent.{matching_punctured, matching-repeated, matching_shortened}
 use Rattle.polar_sets.specs.FrozenPlaces.{frozen_front, is_free, is_frozen, stands_within}
-
-less : (a b : ℕ) → a < b → nat_lt a b ≡ true
-less a b h = grind arith
-
-pub not_less : (a b : ℕ) → b ≤ a → nat_lt a b ≡ false
-not_less a b h = grind arith
-
-pub differs : (a b : ℕ) → a ≢ b → (a == b) ≡ false
-differs a b h = elim (eqb_tells a b) [ inl e ↦ absurd (h e.1) | inr e ↦ e.0 ]
 
 -- a position that is sent within some places
 pub stands_here : (n from count m p : ℕ) → from ≤ m → m < from + count → position_at n m ≡ p → stands_within n from count p ≡ true
@@ -31,7 +22,8 @@ stands_here n from count m p h l e =
     (ap (position_at n) (get_or-range_with_len from count (m - from) 0 (omega arith) ∙ omega arith) ∙ e))
 
 -- and one that is sent at a place that is none of them
-pub stands_nowhere : (n from count m p : ℕ) → IsTrue (is_code_length n) → m < n → from + count ≤ n → (from ≤ m → m < from + count → ⊥) →
+pub stands_nowhere : (n from count m p : ℕ) → IsTrue (is_code_length n) → m < n → from + count ≤ n
+    → (from ≤ m → m < from + count → ⊥) →
     position_at n m ≡ p → stands_within n from count p ≡ false
 unfolding stands_within
 stands_nowhere n from count m p h l w none e =
@@ -40,17 +32,19 @@ stands_nowhere n from count m p h l w none e =
     (λ i d b.
     let x = get_or-range_with_len from count i d (omega arith) in
     ap (λ (y : ℕ). position_at n y == p) x
-    ∙ differs (position_at n (from + i)) p
-    (λ same. let once : from + i ≡ m = position_once n (from + i) m h (omega arith) l (same ∙ sym e) in none (omega arith) (omega arith)))
+    ∙ ne_eqb (position_at n (from + i)) p
+    (λ same. let once : from + i ≡ m = position_once n (from + i) m h (omega arith) l (same ∙ sym e) in none (omega arith)
+    (omega arith)))
 
+-- no position from the length of the word on is free
 pub free_past : (n k e p : ℕ) → n ≤ p → is_free n k e p ≡ false
 unfolding is_free
-free_past n k e p h = rw (not_less p n h) refl
+free_past n k e p h = rw (le-ltb p n h) refl
 
 -- with repetition each position is free
 pub free_repeated : (n k e p : ℕ) → p < n → n ≤ e → is_free n k e p ≡ true
 unfolding is_free is_frozen
-free_repeated n k e p h l = rw (less p n h, at_most n e l) refl
+free_repeated n k e p h l = rw (lt-ltb p n h, matching-repeated n k e l) refl
 
 -- with shortening those that are sent before the last places
 pub free_shortened : (n k e m p : ℕ) → IsTrue (is_code_length n) → m < n → p < n → e < n → 7 * e < 16 * k → position_at n m ≡ p →
@@ -58,8 +52,15 @@ pub free_shortened : (n k e m p : ℕ) → IsTrue (is_code_length n) → m < n �
 unfolding is_free is_frozen
 free_shortened n k e m p h l b f g at =
     elim (cases_lt m e) [
-      | inl s ↦ rw (less p n b, more n e f, more (16 * k) (7 * e) g, stands_nowhere n e (n - e) m p h l (omega arith) (λ x y. omega arith) at, less m e s) refl
-      | inr s ↦ rw (less p n b, more n e f, more (16 * k) (7 * e) g, stands_here n e (n - e) m p s (omega arith) at, not_less m e s) refl
+      | inl s ↦
+          rw (
+            lt-ltb p n b,
+            matching_shortened n k e f g,
+            stands_nowhere n e (n - e) m p h l (omega arith)
+                (λ x y. omega arith) at,
+            lt-ltb m e s,
+          ) refl
+      | inr s ↦ rw (lt-ltb p n b, matching_shortened n k e f g, stands_here n e (n - e) m p s (omega arith) at, le-ltb m e s) refl
     ]
 
 none_of : (a : Bool) → (true && not (a || true)) ≡ false
@@ -70,16 +71,18 @@ behind : (p front : ℕ) → (true && not (nat_lt p front || false)) ≡ leb fro
 behind p front = grind arith
 
 -- with puncturing none that is sent at the first places
-pub free_punctured_not : (n k e m p : ℕ) → m < n - e → p < n → e < n → 16 * k ≤ 7 * e → position_at n m ≡ p → is_free n k e p ≡ false
+pub free_punctured_not : (n k e m p : ℕ) → m < n - e → p < n → e < n → 16 * k ≤ 7 * e → position_at n m ≡ p
+    → is_free n k e p ≡ false
 unfolding is_free is_frozen
 free_punctured_not n k e m p s b f g at =
-    rw (less p n b, more n e f, at_most (16 * k) (7 * e) g, stands_here n 0 (n - e) m p (omega arith) (omega arith) at)
+    rw (lt-ltb p n b, matching_punctured n k e f g, stands_here n 0 (n - e) m p (omega arith) (omega arith) at)
     (none_of (nat_lt p (frozen_front n e)))
 
 -- and of the others those behind the frozen front
-pub free_punctured : (n k e m p : ℕ) → IsTrue (is_code_length n) → m < n → n - e ≤ m → p < n → e < n → 16 * k ≤ 7 * e → position_at n m ≡ p →
+pub free_punctured : (n k e m p : ℕ) → IsTrue (is_code_length n) → m < n → n - e ≤ m → p < n → e < n → 16 * k ≤ 7 * e
+    → position_at n m ≡ p →
     is_free n k e p ≡ leb (frozen_front n e) p
 unfolding is_free is_frozen
 free_punctured n k e m p h l s b f g at =
-    rw (less p n b, more n e f, at_most (16 * k) (7 * e) g, stands_nowhere n 0 (n - e) m p h l (omega arith) (λ x y. omega arith) at)
+    rw (lt-ltb p n b, matching_punctured n k e f g, stands_nowhere n 0 (n - e) m p h l (omega arith) (λ x y. omega arith) at)
     (behind p (frozen_front n e))

@@ -1,5 +1,4 @@
 pub mod Closed
-pub mod Counting
 pub mod Entries
 pub mod Frozen
 pub mod Information

@@ -1,5 +1,7 @@
 -- The information positions taken one after the other, from the last entry of the table on.
-use Rattle.std.proofs.Common.{ℕ, ◌≡◌, ◌+◌, ◌-◌, ◌<◌, suc, Bool, true, false, ◌||◌, List, [], ◌∷◌, drop, length, get_or, replicate, set, inl, inr, refl, ap, subst, sym, ◌∙◌, arith, length-set, get_or-set_same, get_or-set_other}
+use Rattle.std.proofs.Common.{ℕ, ◌≡◌, ◌+◌, ◌-◌, ◌<◌, suc, Bool, true, false, ◌||◌, List, [], ◌∷◌, drop, length, get_or}
+use Rattle.std.proofs.Common.{replicate, set, inl, inr, refl, ap, subst, sym, ◌∙◌, arith, length-set, get_or-set_same}
+use Rattle.std.proofs.Common.{get_or-set_other}
 use Rattle.std.specs.Prelude.{◌==◌}
 use Rattle.std.specs.List.{filter}
 use Rattle.std.proofs.lemmas.Bool.{cases_lt}
@@ -10,8 +12,8 @@ use Rattle.bits_core.specs.Bits.{bit_of}
 use Rattle.polar_sets.specs.CodeSets.{IsInformation}
 use Rattle.polar_sets.specs.FrozenPlaces.{is_free}
 use Rattle.polar_sets.specs.InformationPositions.{free_positions, information, is_in, last_of}
-use Rattle.polar_sets.proofs.Counting.{count-same}
-use Rattle.polar_sets.proofs.Members.{length-last}
+use Rattle.list_facts.proofs.Counting.{count_same}
+use Rattle.polar_sets.proofs.Members.{length_last}
 
 -- the flags of the information positions among the entries of the table from `from` on, and how many are left to take
 pub record IsTaken (table : List ℕ) (n k e from : ℕ) (flags : List Bool) (left : ℕ) : Type 0 where
@@ -26,7 +28,7 @@ last_few k x xs h =
           let none : length xs - k ≡ 0 = omega arith in
           let all : length (x ∷ xs) - k ≡ 0 = omega arith in
           ap (λ (i : ℕ). drop i (x ∷ xs)) all ∙ sym (ap (λ (i : ℕ). x ∷ drop i xs) none)
-      | inr g ↦ (let m = length-last k xs g in absurd (omega arith))
+      | inr g ↦ (let m = length_last k xs g in absurd (omega arith))
     ]
 
 last_full : (k x : ℕ) (xs : List ℕ) → length (last_of k xs) ≡ k → last_of k (x ∷ xs) ≡ last_of k xs
@@ -35,11 +37,13 @@ last_full k x xs h =
     let one : length (x ∷ xs) - k ≡ suc (length xs - k) = omega arith in
     ap (λ (i : ℕ). drop i (x ∷ xs)) one
 
-information_frozen : (x : ℕ) (xs : List ℕ) (n k e : ℕ) → is_free n k e x ≡ false → information (x ∷ xs) n k e ≡ information xs n k e
+information_frozen : (x : ℕ) (xs : List ℕ) (n k e : ℕ) → is_free n k e x ≡ false
+    → information (x ∷ xs) n k e ≡ information xs n k e
 unfolding information free_positions
 information_frozen x xs n k e h = rw h refl
 
-information_full : (x : ℕ) (xs : List ℕ) (n k e : ℕ) → length (information xs n k e) ≡ k → information (x ∷ xs) n k e ≡ information xs n k e
+information_full : (x : ℕ) (xs : List ℕ) (n k e : ℕ) → length (information xs n k e) ≡ k
+    → information (x ∷ xs) n k e ≡ information xs n k e
 unfolding information free_positions
 information_full x xs n k e h =
     elim (is_free n k e x) as (λ b. is_free n k e x ≡ b → information (x ∷ xs) n k e ≡ information xs n k e) [
@@ -58,35 +62,46 @@ here : (table : List ℕ) (from x : ℕ) → from < length table → x ≡ get_o
 here table from x l e = drop_more table from 0 l ∙ ap (λ (y : ℕ). y ∷ drop (from + 1) table) (sym e)
 
 same_taken : (table : List ℕ) (n k e from other : ℕ) (flags : List Bool) (left : ℕ) →
-    information (drop other table) n k e ≡ information (drop from table) n k e → IsTaken table n k e from flags left → IsTaken table n k e other flags left
+    information (drop other table) n k e ≡ information (drop from table) n k e → IsTaken table n k e from flags left
+    → IsTaken table n k e other flags left
 same_taken table n k e from other flags left same t = record {
   long = t.long;
   taken = λ p. t.taken p ∙ ap (λ (xs : List ℕ). is_in xs p) (sym same);
   rest = ap (λ (xs : List ℕ). left + length xs) same ∙ t.rest;
 }
 
-pub taken_frozen : (table : List ℕ) (n k e from x : ℕ) (flags : List Bool) (left : ℕ) → from < length table → x ≡ get_or table from 0 →
+-- a frozen position is not taken
+pub taken_frozen : (table : List ℕ) (n k e from x : ℕ) (flags : List Bool) (left : ℕ) → from < length table
+    → x ≡ get_or table from 0 →
     is_free n k e x ≡ false → IsTaken table n k e (from + 1) flags left → IsTaken table n k e from flags left
 taken_frozen table n k e from x flags left l at h t =
     same_taken table n k e (from + 1) from flags left
     (ap (λ (xs : List ℕ). information xs n k e) (here table from x l at) ∙ information_frozen x (drop (from + 1) table) n k e h) t
 
-pub taken_full : (table : List ℕ) (n k e from x : ℕ) (flags : List Bool) (left : ℕ) → from < length table → x ≡ get_or table from 0 →
+-- nor is one where all are taken
+pub taken_full : (table : List ℕ) (n k e from x : ℕ) (flags : List Bool) (left : ℕ) → from < length table
+    → x ≡ get_or table from 0 →
     left ≡ 0 → IsTaken table n k e (from + 1) flags left → IsTaken table n k e from flags left
 taken_full table n k e from x flags left l at none t =
     let full : length (information (drop (from + 1) table) n k e) ≡ k = (let r = t.rest in omega arith) in
     same_taken table n k e (from + 1) from flags left
-    (ap (λ (xs : List ℕ). information xs n k e) (here table from x l at) ∙ information_full x (drop (from + 1) table) n k e full) t
+    (ap (λ (xs : List ℕ). information xs n k e) (here table from x l at)
+    ∙ information_full x (drop (from + 1) table) n k e full) t
 
 set_flag : (flags : List Bool) (x p : ℕ) → x < length flags → bit_of (set flags x true) p ≡ (x == p || bit_of flags p)
 set_flag flags x p l =
     elim (eqb_tells x p) [
-      | inl e ↦ rw e.0 (ap (λ (y : ℕ). bit_of (set flags y true) p) e.1 ∙ get_or-set_same flags p true false (subst (λ (y : ℕ). y < length flags) e.1 l))
+      | inl e ↦
+          rw e.0 (ap (λ (y : ℕ). bit_of (set flags y true) p) e.1
+          ∙ get_or-set_same flags p true false (subst (λ (y : ℕ). y < length flags) e.1 l))
       | inr e ↦ rw e.0 (get_or-set_other flags x p true false (λ s. e.1 (sym s)))
     ]
 
-pub taken_more : (table : List ℕ) (n k e from x : ℕ) (flags : List Bool) (left : ℕ) → from < length table → x ≡ get_or table from 0 →
-    x < 512 → is_free n k e x ≡ true → 0 < left → IsTaken table n k e (from + 1) flags left → IsTaken table n k e from (set flags x true) (left - 1)
+-- a free position is taken while some are left
+pub taken_more : (table : List ℕ) (n k e from x : ℕ) (flags : List Bool) (left : ℕ) → from < length table
+    → x ≡ get_or table from 0 →
+    x < 512 → is_free n k e x ≡ true → 0 < left → IsTaken table n k e (from + 1) flags left
+    → IsTaken table n k e from (set flags x true) (left - 1)
 taken_more table n k e from x flags left l at b h some t =
     let few : length (information (drop (from + 1) table) n k e) < k = (let r = t.rest in omega arith) in
     let more : information (drop from table) n k e ≡ x ∷ information (drop (from + 1) table) n k e =
@@ -104,10 +119,12 @@ taken_more table n k e from x flags left l at b h some t =
           ∙ (let r = t.rest in omega arith);
     }
 
+-- equal flags
 pub same_flags : (table : List ℕ) (n k e from : ℕ) (flags other : List Bool) (left rest : ℕ) → flags ≡ other → left ≡ rest →
     IsTaken table n k e from other rest → IsTaken table n k e from flags left
 same_flags table n k e from flags other left rest f l t =
-    subst (λ (xs : List Bool). IsTaken table n k e from xs left) (sym f) (subst (λ (x : ℕ). IsTaken table n k e from other x) (sym l) t)
+    subst (λ (xs : List Bool). IsTaken table n k e from xs left) (sym f)
+    (subst (λ (x : ℕ). IsTaken table n k e from other x) (sym l) t)
 
 no_flag : (p : ℕ) → bit_of (replicate 512 false) p ≡ false
 no_flag p =
@@ -133,7 +150,8 @@ taken_none table n k e h =
     }
 
 -- the flags of all entries
-pub taken_all : (table : List ℕ) (n k e other from : ℕ) (flags : List Bool) (left : ℕ) → n ≡ other → from ≡ 0 → IsTaken table n k e from flags left →
+pub taken_all : (table : List ℕ) (n k e other from : ℕ) (flags : List Bool) (left : ℕ) → n ≡ other → from ≡ 0
+    → IsTaken table n k e from flags left →
     (p : ℕ) → bit_of flags p ≡ is_in (information table other k e) p
 taken_all table n k e other from flags left same none t p =
     t.taken p
@@ -141,9 +159,10 @@ taken_all table n k e other from flags left same none t p =
     ∙ ap (λ (m : ℕ). is_in (information table m k e) p) same
 
 -- a test that agrees with one of information positions
-pub information-same : (n k e : ℕ) (test info : ℕ → Bool) → ((p : ℕ) → test p ≡ info p) → IsInformation n k e info → IsInformation n k e test
-information-same n k e test info same h = record {
-  count_is = count-same n test info (λ p l. same p) ∙ h.count_is;
+pub information_same : (n k e : ℕ) (test info : ℕ → Bool) → ((p : ℕ) → test p ≡ info p) → IsInformation n k e info
+    → IsInformation n k e test
+information_same n k e test info same h = record {
+  count_is = count_same n test info (λ p l. same p) ∙ h.count_is;
   below = λ p is. h.below p (sym (same p) ∙ is);
   is_sent = λ p is. h.is_sent p (sym (same p) ∙ is);
 }

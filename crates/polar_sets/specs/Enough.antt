@@ -2,10 +2,10 @@
 -- (3GPP TS 38.212, 5.3.1.2 and 5.4.1.1).
 use Rattle.std.specs.Prelude.{ℕ, ◌≤◌}
 use Rattle.rate_match.specs.MotherCode.{length_of}
-use Rattle.polar_sets.specs.Counts.{count_below}
+use Rattle.list_facts.specs.Counting.{count_below}
 use Rattle.polar_sets.specs.FrozenPlaces.{is_free}
 
--- k bits that are sent in e have e bits at least and as many free positions
+-- there are at least k bits to send, and at least k free positions
 pub record Enough (k e : ℕ) : Type 0 where
   pub sent : k ≤ e
   pub free : k ≤ count_below (length_of k e) (is_free (length_of k e) k e)

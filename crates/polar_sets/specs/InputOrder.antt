@@ -8,5 +8,5 @@ unfoldable pub order_from : List ℕ → ℕ → List ℕ
 order_from table k = map (λ t. t - (164 - k)) (filter (λ t. nat_le (164 - k) t) table)
 
 -- the bits of a block in an order
-unfoldable pub interleaved : List ℕ → List Bool → List Bool
-interleaved order c = map (bit_of c) order
+unfoldable pub in_input_order : List ℕ → List Bool → List Bool
+in_input_order order c = map (bit_of c) order

@@ -1,5 +1,4 @@
 pub mod CodeSets
-pub mod Counts
 pub mod Enough
 pub mod FrozenPlaces
 pub mod InformationPositions

@@ -1,11 +1,11 @@
 //! The positions of a word that are free to carry the bits of a block (3GPP TS 38.212, 5.3.1.2 and 5.4.1.1).
 ghost use Rattle.bits_core.specs.CodeLengths.{is_code_length};
-ghost use Rattle.polar_sets.specs.Counts.{count_below};
+ghost use Rattle.list_facts.specs.Counting.{count_below};
 ghost use Rattle.polar_sets.specs.Enough.{Enough};
 ghost use Rattle.polar_sets.specs.FrozenPlaces.{frozen_front, is_free};
 ghost use Rattle.std.specs.Prelude.{◌≡◌, ◌<◌, ◌≤◌, ◌↔◌, IsTrue};
 
-use rate_match::{length_for, place_of};
+use rate_match::{Matching, length_for, place_of};
 
 /// Whether a block of `k` bits can be sent in `e`: there are that many bits to send, and a free position for each bit.
 pub fn enough(k: usize, e: usize) -> bool
@@ -48,17 +48,12 @@ pub(crate) fn is_free(n: usize, k: usize, e: usize, position: usize) -> bool
     if position >= n {
         return false;
     }
-    if n <= e {
-        return true;
-    }
     let place = place_of(n, position);
-    if 16 * k > 7 * e {
-        return place < e;
+    match Matching::of(n, k, e) {
+        Matching::Repeated => true,
+        Matching::Punctured => place >= n - e && position >= front_of(n, e),
+        Matching::Shortened => place < e,
     }
-    if place < n - e {
-        return false;
-    }
-    position >= front_of(n, e)
 }
 
 /// The first position that is free with puncturing.
@@ -68,8 +63,8 @@ fn front_of(n: usize, e: usize) -> usize
     ensures { result ≡ frozen_front n e }
 {
     if 3 * n <= 4 * e {
-        (3 * n - 2 * e + 3) / 4
+        (3 * n - 2 * e).div_ceil(4)
     } else {
-        (9 * n - 4 * e + 15) / 16
+        (9 * n - 4 * e).div_ceil(16)
     }
 }

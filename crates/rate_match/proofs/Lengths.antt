@@ -1,5 +1,6 @@
 -- The least power of two from a number on, and that the length of the mother code is legal.
-use Rattle.std.proofs.Common.{ℕ, ◌≡◌, ◌+◌, ◌-◌, ◌*◌, ◌^◌, ◌<◌, ◌≤◌, zero, suc, min, max, nat_lt, inl, inr, refl, ap, subst, sym, ◌∙◌, arith, lit<}
+use Rattle.std.proofs.Common.{ℕ, ◌≡◌, ◌+◌, ◌-◌, ◌*◌, ◌^◌, ◌<◌, ◌≤◌, zero, suc, min, max, nat_lt, inl, inr, refl, ap}
+use Rattle.std.proofs.Common.{subst, sym, ◌∙◌, arith, lit<}
 use Rattle.std.specs.Prelude.{IsTrue, if◌then◌else◌}
 use Rattle.std.proofs.lemmas.Bool.{cases_lt}
 use Rattle.std.proofs.Math.Nat.{pow-le-pow_right, add-suc, add-zero, le-max_right, max-le, min-le_right, pow-suc}
@@ -48,15 +49,15 @@ least_below x b p =
     ]
 
 -- only one number is the least
-pub least_power-is : (x b : ℕ) → IsLeastPower x b → b ≡ least_power x
-least_power-is x b p =
+pub least_power_is : (x b : ℕ) → IsLeastPower x b → b ≡ least_power x
+least_power_is x b p =
     let le = least_below x b p in
     let whole : b + (x - b) ≡ x = omega arith in
     sym (ap (λ (c : ℕ). powers_below c x) (sym whole) ∙ counted_high x b (x - b) p)
 
 -- what a loop leaves that doubles a power until it reaches x
 pub least_by_doubling : (x power b : ℕ) → power ≡ 2 ^ b → x ≤ power → ((c : ℕ) → c < b → 2 ^ c < x) → b ≡ least_power x
-least_by_doubling x power b e l h = least_power-is x b (record { reaches = subst (λ (y : ℕ). x ≤ y) e l; least = h })
+least_by_doubling x power b e l h = least_power_is x b (record { reaches = subst (λ (y : ℕ). x ≤ y) e l; least = h })
 
 -- the least power is small where the number is
 pub least_most : (x power b m : ℕ) → power ≡ 2 ^ b → ((c : ℕ) → c < b → 2 ^ c < x) → x ≤ 2 ^ m → b ≤ m

@@ -1,4 +1,4 @@
-pub mod Blocks
+pub mod Subblocks
 pub mod Lengths
 pub mod Places
 pub mod Repeating

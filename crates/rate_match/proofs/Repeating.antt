@@ -2,7 +2,7 @@
 use Rattle.std.proofs.Common.{ℕ, ◌≡◌, ◌%◌, ◌<◌, ◌≤◌, Bool, List, length, inl, inr, ap, sym, ◌∙◌, arith}
 use Rattle.std.proofs.lemmas.Bool.{cases_lt}
 use Rattle.std.proofs.Math.Nat.{mod-eq_of_lt, mod-lt}
-use Rattle.rate_match.specs.BlockOrder.{position_at}
+use Rattle.rate_match.specs.SubblockOrder.{position_at}
 use Rattle.rate_match.specs.RateMatching.{selected}
 use Rattle.rate_match.specs.Repeats.{IsFirstDiffering, RepeatsBelow}
 use Rattle.rate_match.proofs.Selected.{bit_of-selected, length-selected}
@@ -14,7 +14,8 @@ selected_repeats n k e d h i l b =
     let m : i % n < n = mod-lt i h in
     let more : n ≤ e = omega arith in
     bit_of-selected n k e d i b
-    ∙ ap (λ (x : ℕ). d (position_at n x)) (sent_repeated n k e i more ∙ sym (mod-eq_of_lt m) ∙ sym (sent_repeated n k e (i % n) more))
+    ∙ ap (λ (x : ℕ). d (position_at n x))
+    (sent_repeated n k e i more ∙ sym (mod-eq_of_lt m) ∙ sym (sent_repeated n k e (i % n) more))
     ∙ sym (bit_of-selected n k e d (i % n) (omega arith))
 
 -- bits all of which repeat have none that differs

@@ -1,29 +1,39 @@
 -- The place in the order of sending of each bit that is sent.
-use Rattle.std.proofs.Common.{ℕ, ◌≡◌, ◌+◌, ◌-◌, ◌*◌, ◌%◌, ◌<◌, ◌≤◌, true, false, nat_le, inl, inr, refl, sym, ◌∙◌, arith}
-use Rattle.std.proofs.lemmas.Bool.{cases_lt}
+use Rattle.std.proofs.Common.{ℕ, ◌≡◌, ◌+◌, ◌-◌, ◌*◌, ◌%◌, ◌<◌, ◌≤◌, inl, inr, refl, sym, ◌∙◌, arith}
+use Rattle.std.proofs.lemmas.Bool.{cases_lt, le-leb, lt-leb}
 use Rattle.std.proofs.Math.Nat.{mod-eq_of_lt, mod-lt}
-use Rattle.rate_match.specs.RateMatching.{sent_place}
+use Rattle.rate_match.specs.RateMatching.{matching, sent_place}
+use Rattle.rate_match.specs.declared.matching.Matching.TheVariants.{Repeated, Punctured, Shortened}
 
-pub at_most : (a b : ℕ) → a ≤ b → nat_le a b ≡ true
-at_most a b h = grind arith
+-- the way that a condition gives
+pub matching-repeated : (n k e : ℕ) → n ≤ e → matching n k e ≡ Repeated
+unfolding matching
+matching-repeated n k e h = rw (le-leb n e h) refl
 
-pub more : (a b : ℕ) → b < a → nat_le a b ≡ false
-more a b h = grind arith
+-- with fewer bits than the word, and a low rate
+pub matching_punctured : (n k e : ℕ) → e < n → 16 * k ≤ 7 * e → matching n k e ≡ Punctured
+unfolding matching
+matching_punctured n k e h l = rw (lt-leb n e h, le-leb (16 * k) (7 * e) l) refl
+
+-- with fewer bits than the word, and a high rate
+pub matching_shortened : (n k e : ℕ) → e < n → 7 * e < 16 * k → matching n k e ≡ Shortened
+unfolding matching
+matching_shortened n k e h l = rw (lt-leb n e h, lt-leb (16 * k) (7 * e) l) refl
 
 -- with repetition
 pub sent_repeated : (n k e i : ℕ) → n ≤ e → sent_place n k e i ≡ i % n
 unfolding sent_place
-sent_repeated n k e i h = rw (at_most n e h) refl
+sent_repeated n k e i h = rw (matching-repeated n k e h) refl
 
 -- with puncturing
 pub sent_punctured : (n k e i : ℕ) → e < n → 16 * k ≤ 7 * e → sent_place n k e i ≡ i + (n - e)
 unfolding sent_place
-sent_punctured n k e i h l = rw (more n e h, at_most (16 * k) (7 * e) l) refl
+sent_punctured n k e i h l = rw (matching_punctured n k e h l) refl
 
 -- with shortening
 pub sent_shortened : (n k e i : ℕ) → e < n → 7 * e < 16 * k → sent_place n k e i ≡ i
 unfolding sent_place
-sent_shortened n k e i h l = rw (more n e h, more (16 * k) (7 * e) l) refl
+sent_shortened n k e i h l = rw (matching_shortened n k e h l) refl
 
 -- one of the three ways
 pub by_ways : (P : ℕ → ℕ → ℕ → Type 0) → ((n k e : ℕ) → n ≤ e → P n k e) → ((n k e : ℕ) → e < n → 16 * k ≤ 7 * e → P n k e) →
@@ -37,6 +47,7 @@ by_ways P repeated punctured shortened n k e =
       | inr g ↦ repeated n k e g
     ]
 
+-- each bit that is sent has a place below the length of the word
 pub sent_below : (n k e i : ℕ) → 0 < n → i < e → sent_place n k e i < n
 sent_below =
     by_ways (λ n k e. (i : ℕ) → 0 < n → i < e → sent_place n k e i < n)

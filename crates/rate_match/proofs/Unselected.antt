@@ -1,15 +1,16 @@
 -- The word that received bits leave, put there one after the other.
-use Rattle.std.proofs.Common.{ℕ, ◌≡◌, ◌≢◌, ◌+◌, ◌%◌, ◌<◌, ◌≤◌, Bool, false, List, length, set, min, inl, inr, refl, ap, subst, sym, ◌∙◌, arith, below_more, get_or-set_other, get_or-set_same, length-set}
+use Rattle.std.proofs.Common.{ℕ, ◌≡◌, ◌≢◌, ◌+◌, ◌%◌, ◌<◌, ◌≤◌, Bool, false, List, length, set, min, inl, inr, refl, ap, subst}
+use Rattle.std.proofs.Common.{sym, ◌∙◌, arith, below_more, get_or-set_other, get_or-set_same, length-set}
 use Rattle.std.specs.Prelude.{IsTrue}
 use Rattle.std.proofs.lemmas.Bool.{cases_lt}
 use Rattle.std.proofs.Math.Nat.{mod-eq_of_lt, mod-lt}
 use Rattle.bits_core.specs.Bits.{bit_of}
 use Rattle.bits_core.specs.CodeLengths.{is_code_length}
-use Rattle.rate_match.specs.BlockOrder.{position_at}
+use Rattle.rate_match.specs.SubblockOrder.{position_at}
 use Rattle.rate_match.specs.RateMatching.{selected, sent_place}
 use Rattle.rate_match.specs.Received.{IsUnselected}
 use Rattle.rate_match.specs.Repeats.{RepeatsBelow}
-use Rattle.rate_match.proofs.Blocks.{in_blocks, position_below}
+use Rattle.rate_match.proofs.Subblocks.{in_subblocks, position_below}
 use Rattle.rate_match.proofs.Places.{position_once}
 use Rattle.rate_match.proofs.Selected.{selected_by_each}
 use Rattle.rate_match.proofs.Sent.{sent_below, sent_once, sent_repeated}
@@ -22,18 +23,21 @@ pub record IsPut (n k : ℕ) (bits d : List Bool) (count : ℕ) : Type 0 where
       (position : ℕ) → ((i : ℕ) → i < count → position_at n (sent_place n k (length bits) i) ≢ position) →
       bit_of d position ≡ false
 
+-- a code length is not 0
 pub positive : (n : ℕ) → IsTrue (is_code_length n) → 0 < n
-positive n h = let b = in_blocks n h in let s = b.some in omega arith
+positive n h = let b = in_subblocks n h in let s = b.some in omega arith
 
 -- the positions of two of the bits that are sent first
 sent_apart : (n k e i j : ℕ) → IsTrue (is_code_length n) → i < e → j < e → i < n → j < n →
     position_at n (sent_place n k e i) ≡ position_at n (sent_place n k e j) → i ≡ j
 sent_apart n k e i j h a b f g q =
     sent_once n k e i j a b f g
-    (position_once n (sent_place n k e i) (sent_place n k e j) h (sent_below n k e i (positive n h) a) (sent_below n k e j (positive n h) b) q)
+    (position_once n (sent_place n k e i) (sent_place n k e j) h (sent_below n k e i (positive n h) a)
+    (sent_below n k e j (positive n h) b) q)
 
 -- one bit more
-pub put_more : (n k : ℕ) (bits d : List Bool) (count p : ℕ) (bit : Bool) → IsTrue (is_code_length n) → count < length bits → count < n →
+pub put_more : (n k : ℕ) (bits d : List Bool) (count p : ℕ) (bit : Bool) → IsTrue (is_code_length n) → count < length bits
+    → count < n →
     p ≡ position_at n (sent_place n k (length bits) count) → bit ≡ bit_of bits count → IsPut n k bits d count →
     IsPut n k bits (set d p bit) (count + 1)
 put_more n k bits d count p bit h l m e b put =
@@ -46,7 +50,9 @@ put_more n k bits d count p bit h l m e b put =
       received =
           below_more (λ i. bit_of (set d p bit) (at i) ≡ bit_of bits i) count
           (λ i g.
-          let other : at i ≢ p = λ same. (let once : i ≡ count = sent_apart n k e0 i count h (omega arith) l (omega arith) m (same ∙ e) in omega arith) in
+          let other : at i ≢ p =
+          λ same. (let once : i ≡ count = sent_apart n k e0 i count h (omega arith) l (omega arith) m (same ∙ e) in
+          omega arith) in
           get_or-set_other d p (at i) bit false other ∙ put.received i g)
           (ap (λ (x : ℕ). bit_of (set d x bit) (at count)) e ∙ get_or-set_same d (at count) bit false below ∙ b);
       empty =
@@ -62,7 +68,8 @@ repeats_received : (n k : ℕ) (bits d : List Bool) (i : ℕ) → IsTrue (is_cod
 repeats_received n k bits d i h l same put f g =
     let e = length bits in
     let m : i % n < n = mod-lt i (positive n h) in
-    ap (λ (x : ℕ). bit_of d (position_at n x)) (sent_repeated n k e i l ∙ sym (mod-eq_of_lt m) ∙ sym (sent_repeated n k e (i % n) l))
+    ap (λ (x : ℕ). bit_of d (position_at n x))
+    (sent_repeated n k e i l ∙ sym (mod-eq_of_lt m) ∙ sym (sent_repeated n k e (i % n) l))
     ∙ put.received (i % n) m
     ∙ sym (same i f g)
 
@@ -80,7 +87,8 @@ unselected_repeated n k bits d h l same put =
       empty = λ position apart. put.empty position (λ i g. apart i (omega arith));
     }
 
-unselected_once : (n k : ℕ) (bits d : List Bool) (count : ℕ) → count ≡ length bits → IsPut n k bits d count → IsUnselected n k bits d
+unselected_once : (n k : ℕ) (bits d : List Bool) (count : ℕ) → count ≡ length bits → IsPut n k bits d count
+    → IsUnselected n k bits d
 unselected_once n k bits d count e put =
     record {
       length_is = put.length_is;

@@ -1,4 +1,4 @@
-pub mod BlockOrder
+pub mod SubblockOrder
 pub mod MotherCode
 pub mod RateMatching
 pub mod Received

@@ -7,7 +7,8 @@ unfoldable pub powers_below : ℕ → ℕ → ℕ
 powers_below zero x = 0
 powers_below (suc count) x = powers_below count x + (if nat_lt (2 ^ count) x then 1 else 0)
 
--- the least b with x ≤ 2 ^ b: as many powers of two are below x
+-- the least b with x ≤ 2 ^ b: as many powers of two are below x; the first x of them are enough to count, since 2 ^ x and
+-- all later ones are above x
 abbrev pub least_power : ℕ → ℕ
 least_power x = powers_below x x
 
@@ -16,6 +17,6 @@ least_power x = powers_below x x
 abbrev pub exponent_of : ℕ → ℕ → ℕ → ℕ
 exponent_of k e b = if nat_le (16 * e) (9 * 2 ^ b) && nat_lt (16 * k) (9 * e) then b - 1 else b
 
--- the length: a power of two from 32 to 512, which suits e, and no rate below 1 / 8
+-- the length: a power of two from 32 to 512, which suits e, and is at most the least power of two that holds 8 k
 unfoldable pub length_of : ℕ → ℕ → ℕ
 length_of k e = 2 ^ max (min (min (exponent_of k e (least_power e)) (least_power (8 * k))) 9) 5

@@ -2,7 +2,7 @@
 -- (3GPP TS 38.212, 5.4.1.2).
 use Rattle.std.specs.Prelude.{◌≡◌, ◌≢◌, ℕ, ◌<◌, Bool, false, List, length}
 use Rattle.bits_core.specs.Bits.{bit_of}
-use Rattle.rate_match.specs.BlockOrder.{position_at}
+use Rattle.rate_match.specs.SubblockOrder.{position_at}
 use Rattle.rate_match.specs.RateMatching.{sent_place}
 
 -- the word d of n bits that the received bits of a block of k bits leave

@@ -3,9 +3,11 @@
 #![tactic(auto)]
 
 mod length;
+mod matching;
 mod order;
 mod selection;
 
 pub use length::length_for;
+pub use matching::Matching;
 pub use order::{order_of, place_of};
 pub use selection::{Differs, select, unselect};

@@ -1,13 +1,14 @@
 //! The bits of a word that are sent, and the word that received bits leave (3GPP TS 38.212, 5.4.1.2).
 ghost use Rattle.bits_core.specs.Bits.{bit_of};
 ghost use Rattle.bits_core.specs.CodeLengths.{is_code_length};
-ghost use Rattle.rate_match.specs.BlockOrder.{position_at};
+ghost use Rattle.rate_match.specs.SubblockOrder.{position_at};
 ghost use Rattle.rate_match.specs.MotherCode.{length_of};
 ghost use Rattle.rate_match.specs.RateMatching.{selected, sent_place};
 ghost use Rattle.rate_match.specs.Received.{IsUnselected};
 ghost use Rattle.rate_match.specs.Repeats.{IsFirstDiffering, RepeatsBelow};
 ghost use Rattle.std.specs.Prelude.{ℕ, ◌≡◌, ◌<◌, ◌≤◌, ◌↔◌, IsTrue, MatchOption, OnErr, OnOk, length};
 
+use crate::Matching;
 use crate::order::order_of;
 use bits_core::Coded;
 
@@ -54,12 +55,10 @@ fn place_sent(n: usize, k: usize, e: usize, at: usize) -> usize
     ensures place { result ≡ sent_place n k e at }
     ensures within { result < n }
 {
-    if n <= e {
-        at % n
-    } else if 16 * k <= 7 * e {
-        at + (n - e)
-    } else {
-        at
+    match Matching::of(n, k, e) {
+        Matching::Repeated => at % n,
+        Matching::Punctured => at + (n - e),
+        Matching::Shortened => at,
     }
 }
 

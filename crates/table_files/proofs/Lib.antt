@@ -4,3 +4,5 @@ pub mod Steps
 pub mod ReadTables
 pub mod Spellings
 pub mod WhatIsSpelled
+pub mod FirstFaults
+pub mod Places

@@ -1,3 +1,5 @@
 pub mod Permutation
 pub mod TableText
 pub mod SpelledTables
+pub mod FirstTableFault
+pub mod NumbersInArray

@@ -1,15 +1,19 @@
 -- The text of a table: numbers in decimal with separators between them, judged from the left.
-use Rattle.std.specs.Prelude.{ℕ, ◌+◌, ◌-◌, ◌*◌, min, Bool, cond, ◌&&◌, ◌||◌, ◌==◌, nat_le, nat_lt, List, [], ◌∷◌, ◌++◌, length, take, Option, Some, None, Result, Ok, Err}
+use Rattle.std.specs.Prelude.{ℕ, ◌+◌, ◌-◌, ◌*◌, min, Bool, cond, ◌&&◌, ◌||◌, ◌==◌, nat_le, nat_lt}
+use Rattle.std.specs.Prelude.{List, [], ◌∷◌, ◌++◌, length, Option, Some, None, Result, Ok, Err}
 use Rattle.std.specs.List.{list_any}
 use Rattle.table_files.specs.declared.fault.TableFault.{TableFault}
 use Rattle.table_files.specs.declared.fault.TableFault.TheVariants.{BadByte, TooLarge, Repeated, Count}
-use Rattle.table_files.specs.declared.reader.Progress.{Progress}
-use Rattle.table_files.specs.declared.reader.Run.{Run}
 
--- what has been read: the numbers that have ended, and the run of digits that has not
+-- digits that stand together: the place of the first, and their value, held at 65,535
+pub record DigitRun : Type 0 where
+  pub at : ℕ
+  pub value : ℕ
+
+-- what has been read: the numbers that have ended, and the digits that have not
 pub record Reading : Type 0 where
   pub numbers : List ℕ
-  pub run : Option Run
+  pub run : Option DigitRun
 
 -- the next step from a value, or the fault
 abbrev pub and_then : {A B : Type 0} → Result A TableFault → (A → Result B TableFault) → Result B TableFault
@@ -25,19 +29,19 @@ abbrev pub is_separator : ℕ → Bool
 is_separator byte = byte == 32 || byte == 9 || byte == 13 || byte == 10 || byte == 44
 
 -- a run with one more digit: it begins at its first digit, and its value is held at 65,535
-abbrev pub longer : Option Run → ℕ → ℕ → Run
+abbrev pub longer : Option DigitRun → ℕ → ℕ → DigitRun
 longer None at byte = record { at = at; value = byte - 48 }
 longer (Some run) at byte = record { at = run.at; value = min 65535 (10 * run.value + (byte - 48)) }
 
 -- the numbers with that of a run: it stays below the table's size, and it is none of those before
-unfoldable pub judged : ℕ → List ℕ → Run → Result (List ℕ) TableFault
+unfoldable pub judged : ℕ → List ℕ → DigitRun → Result (List ℕ) TableFault
 judged size numbers run =
     cond (nat_le size run.value) (Err (TooLarge run.at run.value))
     (cond (list_any (λ number. number == run.value) numbers) (Err (Repeated run.value))
     (Ok (numbers ++ run.value ∷ [])))
 
 -- the numbers once a run has ended, where one stood
-abbrev pub ended : ℕ → List ℕ → Option Run → Result (List ℕ) TableFault
+abbrev pub ended : ℕ → List ℕ → Option DigitRun → Result (List ℕ) TableFault
 ended size numbers None = Ok numbers
 ended size numbers (Some run) = judged size numbers run
 
@@ -61,22 +65,3 @@ read_from size at (byte ∷ rest) reading = and_then (step size at byte reading)
 -- the list of a table of a size that a text spells, or the first fault of the text
 abbrev pub read_table : ℕ → List ℕ → Result (List ℕ) TableFault
 read_table size bytes = read_from size 0 bytes (record { numbers = []; run = None })
-
--- a reading whose numbers stand first in an array
-abbrev pub reading_of : List ℕ → Progress → Reading
-reading_of numbers progress = record { numbers = take progress.found numbers; run = progress.run }
-
--- what one byte led to, its numbers in an array
-abbrev pub reading_found : List ℕ → Result Progress TableFault → Result Reading TableFault
-reading_found numbers (Ok progress) = Ok (reading_of numbers progress)
-reading_found numbers (Err fault) = Err fault
-
--- the first numbers of an array, as many as a reading found
-abbrev pub first_found : List ℕ → Result ℕ TableFault → Result (List ℕ) TableFault
-first_found numbers (Ok found) = Ok (take found numbers)
-first_found numbers (Err fault) = Err fault
-
--- all numbers of an array, where a reading filled it
-abbrev pub all_found : {A : Type 0} → List ℕ → Result A TableFault → Result (List ℕ) TableFault
-all_found numbers (Ok _) = Ok numbers
-all_found numbers (Err fault) = Err fault

@@ -7,4 +7,6 @@ mod reader;
 mod tables;
 
 pub use fault::TableFault;
-pub use tables::{InputOrder, Reliability, Tables, read_input_order, read_reliability};
+pub use tables::{
+    InputOrder, Permutation, Reliability, Tables, read_input_order, read_reliability,
+};

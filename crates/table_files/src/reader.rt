@@ -1,7 +1,8 @@
 //! Reading of a table's numbers from its text.
 ghost use Rattle.std.specs.Prelude.{◌≡◌, ◌<◌, ◌≤◌, IfOk, IsTrue, OnOk, length, take};
 ghost use Rattle.table_files.specs.Permutation.{IsPart, IsTable};
-ghost use Rattle.table_files.specs.TableText.{all_found, ended, first_found, is_digit, is_separator, longer, read_table, reading_found, reading_of, step};
+ghost use Rattle.table_files.specs.NumbersInArray.{all_found, digits_of, first_found, reading_found, reading_of, run_of};
+ghost use Rattle.table_files.specs.TableText.{ended, is_digit, is_separator, longer, read_table, step};
 
 use crate::TableFault;
 
@@ -39,7 +40,7 @@ fn is_separator(byte: u8) -> bool
 /// The run with one more digit, which stands at place `at`.
 fn longer(run: Option<Run>, at: usize, byte: u8) -> Run
     requires { IsTrue (is_digit byte) }
-    ensures { result ≡ longer run at byte }
+    ensures { digits_of result ≡ longer (run_of run) at byte }
 {
     let digit = u32::from(byte - b'0');
     let (first, value) = match run {
@@ -57,7 +58,7 @@ fn longer(run: Option<Run>, at: usize, byte: u8) -> Run
 fn end_run(numbers: &mut [u16], found: usize, run: Option<Run>) -> Result<usize, TableFault>
     requires few { found ≤ length numbers.old }
     requires part { IsPart (length numbers.old) (take found numbers.old) }
-    ensures read { first_found numbers.new result ≡ ended (length numbers.old) (take found numbers.old) run }
+    ensures read { first_found numbers.new result ≡ ended (length numbers.old) (take found numbers.old) (run_of run) }
     ensures few { IfOk result (λ found. found ≤ length numbers.new) }
     ensures part { IfOk result (λ found. IsPart (length numbers.new) (take found numbers.new)) }
 {

@@ -1,5 +1,5 @@
 //! The two tables of the polar code.
-ghost use Rattle.std.specs.Prelude.{◌≡◌, ◌<◌, ◌↔◌, ◌&&◌, IsTrue, List, nat_eq, slice_index, ℕ};
+ghost use Rattle.std.specs.Prelude.{◌≡◌, ◌<◌, ◌≤◌, ◌↔◌, ◌&&◌, IsTrue, List, nat_eq, slice_index, ℕ};
 ghost use Rattle.std.specs.Cmp.Lexicographic.{pointwise};
 ghost use Rattle.table_files.specs.Permutation.{IsTable};
 ghost use Rattle.table_files.specs.SpelledTables.{Spells};
@@ -9,31 +9,30 @@ use crate::TableFault;
 use crate::reader::read_numbers;
 use std::marker::Model;
 
-/// How many places a reliability table has.
-const RELIABILITIES: usize = 1024;
-
-/// How many places an input order has.
-const INPUTS: usize = 164;
-
-/// The bit channels of the polar code from the least reliable on: a permutation of 0 to 1,023
-/// (3GPP TS 38.212, 5.3.1.2).
+/// Each number below `N` once, in some order.
 #[derive(Debug, Drop)]
-pub struct Reliability {
-    channels: [u16; RELIABILITIES],
+pub struct Permutation<const N: usize> {
+    entries: [u16; N],
 }
 
-impl Model for Reliability {
+/// The bit channels of the polar code from the least reliable on (3GPP TS 38.212, 5.3.1.2).
+pub type Reliability = Permutation<1024>;
+
+/// The order in which the bits of a block enter the polar code (3GPP TS 38.212, 5.3.1.1).
+pub type InputOrder = Permutation<164>;
+
+impl<const N: usize> Model for Permutation<N> {
     ghost use Rattle.std.specs.Prelude.{List, ℕ};
     ghost use Rattle.table_files.specs.Permutation.{IsTable};
 
     ghost Value = { List ℕ };
 
-    ghost view = { λ r. r.channels };
+    ghost view = { λ p. p.entries };
 
-    ghost invariant = { λ r. IsTable 1024 r.channels };
+    ghost invariant = { λ p. IsTable N p.entries };
 }
 
-impl PartialEq for Reliability {
+impl<const N: usize> PartialEq for Permutation<N> {
     ghost use Rattle.std.specs.Prelude.{nat_eq};
     ghost use Rattle.std.specs.Cmp.Lexicographic.{pointwise};
     ghost use Rattle.std.specs.Cmp.Rules.{comparing};
@@ -44,62 +43,7 @@ impl PartialEq for Reliability {
     ghost laws = { Prim.search (comparing, rules) };
 
     /// Whether both tables have the same entries.
-    fn eq(&self, other: &Reliability) -> bool
-        ensures value { result ≡ pointwise nat_eq self.now other.now }
-        ensures same { IsTrue result ↔ (self.now ≡ other.now) }
-    {
-        self.channels == other.channels
-    }
-}
-
-impl Eq for Reliability {
-    ghost use Rattle.std.specs.Cmp.Rules.{comparing};
-    ghost use Rattle.std.proofs.Common.{rules};
-
-    ghost laws = { Prim.search (comparing, rules) };
-}
-
-impl Reliability {
-    /// The channel at `place`, below 1,024.
-    pub fn at(&self, place: usize) -> u16
-        requires { place < 1024 }
-        ensures entry { result ≡ slice_index self.now place }
-        ensures inside { result < 1024 }
-        ensures table { IsTable 1024 self.now }
-    {
-        self.channels[place]
-    }
-}
-
-/// The order in which the bits of a block enter the polar code: a permutation of 0 to 163 (3GPP TS 38.212, 5.3.1.1).
-#[derive(Debug, Drop)]
-pub struct InputOrder {
-    entries: [u16; INPUTS],
-}
-
-impl Model for InputOrder {
-    ghost use Rattle.std.specs.Prelude.{List, ℕ};
-    ghost use Rattle.table_files.specs.Permutation.{IsTable};
-
-    ghost Value = { List ℕ };
-
-    ghost view = { λ r. r.entries };
-
-    ghost invariant = { λ r. IsTable 164 r.entries };
-}
-
-impl PartialEq for InputOrder {
-    ghost use Rattle.std.specs.Prelude.{nat_eq};
-    ghost use Rattle.std.specs.Cmp.Lexicographic.{pointwise};
-    ghost use Rattle.std.specs.Cmp.Rules.{comparing};
-    ghost use Rattle.std.proofs.Common.{rules};
-
-    ghost eq = { pointwise nat_eq };
-
-    ghost laws = { Prim.search (comparing, rules) };
-
-    /// Whether both tables have the same entries.
-    fn eq(&self, other: &InputOrder) -> bool
+    fn eq(&self, other: &Permutation<N>) -> bool
         ensures value { result ≡ pointwise nat_eq self.now other.now }
         ensures same { IsTrue result ↔ (self.now ≡ other.now) }
     {
@@ -107,20 +51,20 @@ impl PartialEq for InputOrder {
     }
 }
 
-impl Eq for InputOrder {
+impl<const N: usize> Eq for Permutation<N> {
     ghost use Rattle.std.specs.Cmp.Rules.{comparing};
     ghost use Rattle.std.proofs.Common.{rules};
 
     ghost laws = { Prim.search (comparing, rules) };
 }
 
-impl InputOrder {
-    /// The entry at `place`, below 164.
+impl<const N: usize> Permutation<N> {
+    /// The entry at `place`.
     pub fn at(&self, place: usize) -> u16
-        requires { place < 164 }
+        requires { place < N }
         ensures entry { result ≡ slice_index self.now place }
-        ensures inside { result < 164 }
-        ensures table { IsTable 164 self.now }
+        ensures inside { result < N }
+        ensures table { IsTable N self.now }
     {
         self.entries[place]
     }
@@ -145,7 +89,8 @@ impl PartialEq for Tables {
 
     /// Whether both pairs have the same tables.
     fn eq(&self, other: &Tables) -> bool
-        ensures value { result ≡ (pointwise nat_eq self.now.reliability other.now.reliability && pointwise nat_eq self.now.input_order other.now.input_order) }
+        ensures value { result ≡ (pointwise nat_eq self.now.reliability other.now.reliability
+            && pointwise nat_eq self.now.input_order other.now.input_order) }
         ensures same { IsTrue result ↔ (self.now ≡ other.now) }
     {
         self.reliability == other.reliability && self.input_order == other.input_order
@@ -164,9 +109,7 @@ pub fn read_reliability(bytes: &[u8]) -> Result<Reliability, TableFault>
     ensures read { result ≡ read_table 1024 bytes.now }
     ensures spelled { (numbers : List ℕ) → (result ≡ Ok numbers) ↔ (IsTable 1024 numbers × Spells bytes.now numbers) }
 {
-    let mut channels = [0; RELIABILITIES];
-    read_numbers(bytes, &mut channels)?;
-    Ok(Reliability { channels })
+    read_permutation(bytes)
 }
 
 /// The input order that a text spells, or the text's first fault.
@@ -174,7 +117,16 @@ pub fn read_input_order(bytes: &[u8]) -> Result<InputOrder, TableFault>
     ensures read { result ≡ read_table 164 bytes.now }
     ensures spelled { (numbers : List ℕ) → (result ≡ Ok numbers) ↔ (IsTable 164 numbers × Spells bytes.now numbers) }
 {
-    let mut entries = [0; INPUTS];
+    read_permutation(bytes)
+}
+
+/// The permutation that a text spells, or the text's first fault.
+fn read_permutation<const N: usize>(bytes: &[u8]) -> Result<Permutation<N>, TableFault>
+    requires { N ≤ 1024 }
+    ensures read { result ≡ read_table N bytes.now }
+    ensures spelled { (numbers : List ℕ) → (result ≡ Ok numbers) ↔ (IsTable N numbers × Spells bytes.now numbers) }
+{
+    let mut entries = [0; N];
     read_numbers(bytes, &mut entries)?;
-    Ok(InputOrder { entries })
+    Ok(Permutation { entries })
 }

@@ -6,7 +6,8 @@ use Rattle.crc_mask.proofs.mask.attach.Goals as goal
 pub append_number-requires : goal.append_number-requires
 append_number-requires c =
     let same = c.from.ensures in
-    let value : bit_xor c.parity_of.result c.from.result < 2 ^ 24 = xor_lt 24 c.parity_of.result c.from.result c.parity_of.ensures.below (omega arith) in
+    let value : bit_xor c.parity_of.result c.from.result
+    < 2 ^ 24 = xor_lt 24 c.parity_of.result c.from.result c.parity_of.ensures.below (omega arith) in
     search rules
 
 pub returns-clause-block : goal.returns-clause-block

@@ -1,7 +1,7 @@
 use Rattle.std.proofs.Common.{ℕ, ◌≡◌, ◌<◌, ◌≤◌, length}
 use Rattle.std.specs.Prelude.{IsTrue, slice_index}
 use Rattle.bits_core.specs.Bits.{bit_of}
-use Rattle.polar_sets.specs.Counts.{count_below}
+use Rattle.list_facts.specs.Counting.{count_below}
 use Rattle.polar_chain.proofs.input.read.Given as goal
 
 -- the bits of the positions so far are read

@@ -1,6 +1,6 @@
 use Rattle.std.proofs.Common.{ℕ, ◌≡◌, ◌<◌, ◌≤◌, false}
 use Rattle.bits_core.specs.Bits.{bit_of}
-use Rattle.rate_match.specs.BlockOrder.{position_at}
+use Rattle.rate_match.specs.SubblockOrder.{position_at}
 use Rattle.polar_chain.specs.KnownPlaces.{first_known}
 use Rattle.polar_chain.proofs.known.others_are_zero.Given as goal
 

@@ -1,6 +1,6 @@
 use Rattle.std.proofs.Common.{◌∙◌, sym, arith}
 use Rattle.polar_sets.specs.FrozenPlaces.{is_free}
-use Rattle.polar_sets.proofs.Counting.{count_more, count_no_more, count_none}
+use Rattle.list_facts.proofs.Counting.{count_more, count_no_more, count_none}
 use Rattle.polar_sets.proofs.free_places.free_count.Goals as goal
 use Rattle.polar_sets.proofs.free_places.free_count.Goals.{then-is_free, else-is_free}
 

@@ -1,5 +1,5 @@
 use Rattle.std.proofs.Common.{◌≡◌, ◌≤◌}
-use Rattle.polar_sets.specs.Counts.{count_below}
+use Rattle.list_facts.specs.Counting.{count_below}
 use Rattle.polar_sets.specs.FrozenPlaces.{is_free}
 use Rattle.polar_sets.proofs.free_places.free_count.Given as goal
 

@@ -1,7 +1,7 @@
 use Rattle.std.proofs.Common.{◌*◌, ◌/◌, refl}
 use Rattle.std.proofs.Math.Facts.{Fits-of_lt}
-use Rattle.rate_match.specs.BlockOrder.{position_at}
-use Rattle.rate_match.proofs.Blocks.{place_small, position_below}
+use Rattle.rate_match.specs.SubblockOrder.{position_at}
+use Rattle.rate_match.proofs.Subblocks.{place_small, position_below}
 use Rattle.rate_match.proofs.order.order_of.Goals as goal
 
 pub overflow_mul-result-2 : goal.overflow_mul-result-2

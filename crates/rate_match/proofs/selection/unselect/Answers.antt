@@ -5,8 +5,10 @@ use Rattle.rate_match.proofs.Lengths.{length_legal}
 use Rattle.rate_match.proofs.selection.unselect.Goals as goal
 
 pub first_differing-requires : goal.first_differing-requires
-first_differing-requires g c = subst (λ (n : ℕ). IsTrue (is_code_length n)) (sym c.requires.size) (length_legal c.args.k (length c.args.bits.now))
+first_differing-requires g c =
+    subst (λ (n : ℕ). IsTrue (is_code_length n)) (sym c.requires.size) (length_legal c.args.k (length c.args.bits.now))
 
 pub unselect_bits-requires-clause-size : goal.unselect_bits-requires-clause-size
 unselect_bits-requires-clause-size g c =
-    subst (λ (n : ℕ). IsTrue (is_code_length n)) (sym (c.told-d ∙ c.requires.size)) (length_legal c.args.k (length c.args.bits.now))
+    subst (λ (n : ℕ). IsTrue (is_code_length n)) (sym (c.told-d ∙ c.requires.size))
+    (length_legal c.args.k (length c.args.bits.now))

@@ -1,6 +1,7 @@
 use Rattle.std.proofs.Common.{◌≡◌, ◌≤◌, length, take, drop}
 use Rattle.table_files.specs.Permutation.{IsPart}
-use Rattle.table_files.specs.TableText.{read_from, read_table, reading_of}
+use Rattle.table_files.specs.NumbersInArray.{reading_of}
+use Rattle.table_files.specs.TableText.{read_from, read_table}
 use Rattle.table_files.proofs.reader.read_numbers.Given as goal
 
 abbrev pub invariant-loop-at : goal.invariant-loop-at

@@ -7,7 +7,8 @@ pub loop-taken-preserved : goal.loop-taken-preserved
 loop-taken-preserved c =
     let l = c.loop-taken in
     let g = c.args.self.now in
-    let bit = c.next_bit.ensures.bit ∙ ap (λ s. gold s l.self.at) l.invariant.same_start ∙ ap (gold g.c_init) l.invariant.in_place in
+    let bit = c.next_bit.ensures.bit ∙ ap (λ s. gold s l.self.at) l.invariant.same_start
+    ∙ ap (gold g.c_init) l.invariant.in_place in
     record {
       taken = one_more g.c_init g.at l._taken l.out c.push.new.self c.next_bit.result l.invariant.taken c.push.ensures bit;
       size = omega (arith, ap length c.push.ensures, length-append {A = Bool});

@@ -1,4 +1,4 @@
-use Rattle.gold_scrambler.specs.Gold.{AreStates}
+use Rattle.gold_scrambler.specs.Standing.{AreStates}
 use Rattle.gold_scrambler.proofs.sequence.Gold.new.Given as goal
 
 abbrev pub invariant-loop-step : goal.invariant-loop-step

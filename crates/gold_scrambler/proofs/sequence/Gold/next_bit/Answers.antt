@@ -6,7 +6,8 @@ use Rattle.gold_scrambler.proofs.sequence.Gold.next_bit.Goals as goal
 pub invariant_of-self : goal.invariant_of-self
 invariant_of-self c =
     let here = ap (λ (g : GoldValue). g.at) c.self.view_is in
-    standing_more _ _ _ _ _ _ c.self.invariant (omega arith) c.next_first-self-inside.ensures.next c.next_second-self-inside.ensures.next
+    standing_more _ _ _ _ _ _ c.self.invariant (omega arith) c.next_first-self-inside.ensures.next
+    c.next_second-self-inside.ensures.next
     c.next_first-self-inside.ensures.small c.next_second-self-inside.ensures.small
 
 pub returns-clause-bit : goal.returns-clause-bit

@@ -7,11 +7,13 @@ use Rattle.polar_chain.proofs.code.Code.decode.Goals as goal
 pub returns-clause-word : goal.returns-clause-word
 returns-clause-word c block = (
   (λ e. subst (IsOutcome c.args.self.now c.args.bits.now) e c.outcome.ensures.outcome),
-  (λ h. one_outcome c.args.self.now c.args.bits.now c.outcome.result (Ok block) c.outcome.ensures.sound c.outcome.ensures.outcome h),
+  (λ h. one_outcome c.args.self.now c.args.bits.now c.outcome.result (Ok block) c.outcome.ensures.sound
+      c.outcome.ensures.outcome h),
 )
 
 pub returns-clause-repeat : goal.returns-clause-repeat
 returns-clause-repeat c at = (
   (λ e. subst (IsOutcome c.args.self.now c.args.bits.now) e c.outcome.ensures.outcome),
-  (λ h. one_outcome c.args.self.now c.args.bits.now c.outcome.result (Err (Repeat at)) c.outcome.ensures.sound c.outcome.ensures.outcome h),
+  (λ h. one_outcome c.args.self.now c.args.bits.now c.outcome.result (Err (Repeat at)) c.outcome.ensures.sound
+      c.outcome.ensures.outcome h),
 )

@@ -15,7 +15,8 @@ returns-in-Err g c =
     subst (λ (n : ℕ). IsFirstDiffering n c.args.bits.now c.in-Err.field-0.at) c.requires.size
     ((c.in-Err.ensures.differs c.in-Err.field-0).0 refl)
 
-repeats : (g : Over) (c : Then-not-others_are_zero g) → RepeatsBelow (word_len c.args.self.now) c.args.bits.now (length c.args.bits.now)
+repeats : (g : Over) (c : Then-not-others_are_zero g)
+    → RepeatsBelow (word_len c.args.self.now) c.args.bits.now (length c.args.bits.now)
 repeats g c =
     subst (λ (n : ℕ). RepeatsBelow n c.args.bits.now (length c.args.bits.now)) c.requires.size (c.in_default.ensures.same.0 refl)
 
@@ -45,7 +46,8 @@ block_is g c =
     (c.requires.len ∙ ap (λ (x : CodeShape). x.coded_len) (sym c.self.view_is)) input
     (c.others_are_zero.ensures.0 c.if-not-others_are_zero.false)
     (c.read.ensures.len ∙ ap (λ (xs : List ℕ). length xs) order_is)
-    (subst (λ (xs : List ℕ). IsRead (length c.transform.new.word) xs (bit_of s.positions) (bit_of c.transform.new.word) c.read.result) order_is
+    (subst (λ (xs : List ℕ). IsRead (length c.transform.new.word) xs (bit_of s.positions) (bit_of c.transform.new.word)
+    c.read.result) order_is
     c.read.ensures.bits))
 
 pub returns : goal.returns
