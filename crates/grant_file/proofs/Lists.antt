@@ -1,5 +1,6 @@
 -- What follows of the fields of a grant from the object that gives them.
-use Rattle.std.proofs.Common.{◌≡◌, suc, List, [], ◌∷◌, ◌++◌, All, length, map, String, Global, Less, string_bytes, nat_cmp, slice_index_or, refl, ap, sym, subst, arith}
+use Rattle.std.proofs.Common.{◌≡◌, suc, List, [], ◌∷◌, ◌++◌, All, length, map, String, Global, Less, string_bytes}
+use Rattle.std.proofs.Common.{nat_cmp, slice_index_or, refl, ap, sym, subst, arith}
 use Rattle.std.proofs.lemmas.List.Elements.{All-append}
 use Rattle.std.specs.Cmp.Lexicographic.{slice_cmp}
 use Rattle.std.specs.List.{AllByRecursion}
@@ -10,7 +11,7 @@ use Rattle.dci_fields.specs.declared.fault.Given.{Given}
 use Rattle.serde_json.proofs.Views.{Entry}
 use Rattle.serde_json.specs.Data.{Members, no_members, member}
 use Rattle.serde_json.specs.View.{members_view}
-use Rattle.grant_file.specs.FieldNames.{field_named}
+use Rattle.dci_fields.specs.Words.{field_named}
 use Rattle.grant_file.specs.Fields.{given_in, words_in}
 use Rattle.grant_file.specs.Lists.{IsAscending, IsReadFields}
 

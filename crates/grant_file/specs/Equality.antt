@@ -1,10 +1,12 @@
 -- `==` of lists of grants and of places in them holds exactly of equal values.
-use Rattle.std.specs.Prelude.{◌≡◌, Bool, Decides}
+use Rattle.std.specs.Prelude.{◌≡◌, ℕ, Bool, ◌&&◌, List, Option, Decides}
 use Rattle.std.specs.Cmp.{unsigned_Decides}
-use Rattle.std.proofs.Common.{ap, rules}
+use Rattle.std.proofs.Common.{ap, ◌∙◌, rules}
 use Rattle.std.proofs.lemmas.Bool.Decides.{Decides-and}
 use Rattle.std.proofs.lemmas.Grind.{common_steps}
 use Rattle.std.proofs.lemmas.Slice.Eq.{bytes_eq-Decides}
+use Rattle.dci_fields.specs.declared.fault.Given.{Given}
+use Rattle.dci_fields.specs.declared.formats.Format.{Format}
 use Rattle.dci_fields.specs.Equality.{decides_format, decides_given}
 use Rattle.rrc_settings.specs.Equality.{decides_list, decides_option}
 use Rattle.grant_file.specs.declared.grants.Grant.{Grant}
@@ -31,25 +33,59 @@ decides_place a b =
     let k = decides_key a.key b.key in
     search (rules, common_steps)
 
--- values with equal fields are equal
-grant_same : (a b : Grant) → a.handset ≡ b.handset → a.set ≡ b.set → a.level ≡ b.level → a.candidate ≡ b.candidate → a.symbol ≡ b.symbol
-    → a.format ≡ b.format → a.given ≡ b.given → a.words ≡ b.words → a ≡ b
-grant_same a b e0 e1 e2 e3 e4 e5 e6 e7 = search rules
+-- two values as one
+abbrev pair : {A B : Type 0} → A → B → A × B
+pair a x = (a, x)
+
+-- pairs, where `==` of their parts is exact
+decides_pair : {A B : Type 0} {r s : Bool} {a b : A} {x y : B} → Decides r (a ≡ b) → Decides s (x ≡ y)
+    → Decides (r && s) (pair a x ≡ pair b y)
+decides_pair {A = A} {B = B} {a = a} {b = b} {x = x} {y = y} d e =
+    decides_by (Decides-and _ _ d e)
+    (λ p. ap (λ (k : A). pair k x) p.0 ∙ ap (λ (k : B). pair b k) p.1)
+    (λ q. (ap (λ (t : A × B). t.0) q, ap (λ (t : A × B). t.1) q))
+
+-- the fields of grants, one in the other
+abbrev GrantFields : Type 0
+GrantFields =
+    List ℕ × (ℕ × (ℕ × (Option ℕ × (Option ℕ × (Format × (List Given × List (List ℕ)))))))
+
+-- a grant by its fields
+abbrev fields_of : Grant → GrantFields
+fields_of g = (g.handset, (g.set, (g.level, (g.candidate, (g.symbol, (g.format, (g.given, g.words)))))))
+
+-- the grant with these fields
+abbrev grant_with : GrantFields → Grant
+grant_with (handset, (set, (level, (candidate, (symbol, (format, (given, words))))))) = record {
+  handset = handset;
+  set = set;
+  level = level;
+  candidate = candidate;
+  symbol = symbol;
+  format = format;
+  given = given;
+  words = words;
+}
 
 -- grants
 pub decides_grant : (a b : Grant) → Decides (a_grant.ghosts.eq a b) (a ≡ b)
 decides_grant a b =
-    decides_by (Decides-and _ _ (bytes_eq-Decides a.handset b.handset) (Decides-and _ _ (unsigned_Decides a.set b.set) (Decides-and _ _ (unsigned_Decides a.level b.level) (Decides-and _ _ (decides_option unsigned_Decides a.candidate b.candidate) (Decides-and _ _ (decides_option unsigned_Decides a.symbol b.symbol) (Decides-and _ _ (decides_format a.format b.format) (Decides-and _ _ (decides_list decides_given a.given b.given) (decides_list bytes_eq-Decides a.words b.words))))))))
-    (λ p. grant_same a b p.0 p.1.0 p.1.1.0 p.1.1.1.0 p.1.1.1.1.0 p.1.1.1.1.1.0 p.1.1.1.1.1.1.0 p.1.1.1.1.1.1.1)
-    (λ e. (ap (λ (x : Grant). x.handset) e, (ap (λ (x : Grant). x.set) e, (ap (λ (x : Grant). x.level) e, (ap (λ (x : Grant). x.candidate) e, (ap (λ (x : Grant). x.symbol) e, (ap (λ (x : Grant). x.format) e, (ap (λ (x : Grant). x.given) e, ap (λ (x : Grant). x.words) e))))))))
-
--- values with equal fields are equal
-list_same : (a b : GrantList) → a.frame ≡ b.frame → a.slot ≡ b.slot → a.grants ≡ b.grants → a ≡ b
-list_same a b e0 e1 e2 = search rules
+    decides_by
+    (decides_pair (bytes_eq-Decides a.handset b.handset)
+    (decides_pair (unsigned_Decides a.set b.set)
+    (decides_pair (unsigned_Decides a.level b.level)
+    (decides_pair (decides_option unsigned_Decides a.candidate b.candidate)
+    (decides_pair (decides_option unsigned_Decides a.symbol b.symbol)
+    (decides_pair (decides_format a.format b.format)
+    (decides_pair (decides_list decides_given a.given b.given)
+    (decides_list bytes_eq-Decides a.words b.words))))))))
+    (ap grant_with)
+    (ap fields_of)
 
 -- lists of grants
 pub decides_list_of_grants : (a b : GrantList) → Decides (grant_list.ghosts.eq a b) (a ≡ b)
 decides_list_of_grants a b =
-    decides_by (Decides-and _ _ (unsigned_Decides a.frame b.frame) (Decides-and _ _ (unsigned_Decides a.slot b.slot) (decides_list decides_grant a.grants b.grants)))
-    (λ p. list_same a b p.0 p.1.0 p.1.1)
-    (λ e. (ap (λ (x : GrantList). x.frame) e, (ap (λ (x : GrantList). x.slot) e, ap (λ (x : GrantList). x.grants) e)))
+    let frame = unsigned_Decides a.frame b.frame in
+    let slot = unsigned_Decides a.slot b.slot in
+    let grants = decides_list decides_grant a.grants b.grants in
+    search (rules, common_steps)

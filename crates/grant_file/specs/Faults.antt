@@ -1,7 +1,7 @@
 -- The places and the faults of a list of grants, and how it names what stands in it.
 use Rattle.std.specs.Prelude.{ℕ, Option, Some}
 use Rattle.rrc_settings.specs.declared.place.Reason.{Reason}
-use Rattle.settings_json.specs.Kinds.{Naming}
+use Rattle.rrc_settings.specs.Naming.{Naming}
 use Rattle.grant_file.specs.declared.place.GrantKey.{GrantKey}
 use Rattle.grant_file.specs.declared.place.GrantKey.TheVariants as keys
 use Rattle.grant_file.specs.declared.place.GrantPlace.{GrantPlace}

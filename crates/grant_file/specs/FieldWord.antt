@@ -1,7 +1,7 @@
 -- The word that names a field in a grant: 1 to 24 bytes of `a` to `z`, `0` to `9` and `_`.
 use Rattle.std.specs.Prelude.{ℕ, Bool, List, length, nat_eq, ◌&&◌, ◌||◌}
 use Rattle.std.specs.List.{list_all}
-use Rattle.rrc_settings.specs.Name.{is_from_to}
+use Rattle.rrc_settings.specs.Numbers.{is_from_to}
 
 -- a digit, a small ASCII letter or `_`
 abbrev pub is_word_byte : ℕ → Bool

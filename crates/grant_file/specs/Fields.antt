@@ -1,13 +1,14 @@
--- The values of fields that a grant gives: their words and values are judged in the order of the words, at each word its form first.
+-- The values of fields that a grant gives: their words and values are judged in the order of the words, at each word its form
+-- first.
 use Rattle.std.specs.Prelude.{ℕ, List, [], ◌∷◌, None, is_some}
 use Rattle.dci_fields.specs.declared.fault.Given.{Given}
 use Rattle.rrc_settings.specs.declared.place.Reason.TheVariants.{WrongKind, OutOfRange}
 use Rattle.rrc_settings.specs.Faults.{unless, first_of}
 use Rattle.serde_json.specs.Data.{Data, Members, no_members, member}
 use Rattle.serde_json.specs.Find.{as_object}
-use Rattle.settings_json.specs.Kinds.{whole_of, number_of, members_of}
+use Rattle.json_form.specs.Kinds.{whole_of, number_of, members_of}
 use Rattle.grant_file.specs.declared.place.GrantPlace.{GrantPlace}
-use Rattle.grant_file.specs.FieldNames.{field_named}
+use Rattle.dci_fields.specs.Words.{field_named}
 use Rattle.grant_file.specs.FieldWord.{is_field_word}
 use Rattle.grant_file.specs.Faults.{Finding, fault_at}
 

@@ -1,7 +1,7 @@
 -- The first fault of a list of grants, and the grants where there is none.
 use Rattle.std.specs.Prelude.{ℕ, List, None}
 use Rattle.rrc_settings.specs.declared.place.Reason.TheVariants.{NotJson}
-use Rattle.settings_json.specs.Texts.{found_in, spelled_in}
+use Rattle.json_form.specs.Texts.{found_in, spelled_in}
 use Rattle.grant_file.specs.declared.grants.GrantList.{GrantList}
 use Rattle.grant_file.specs.Faults.{Finding, fault_at, whole_at}
 use Rattle.grant_file.specs.Shapes.{judge_list}

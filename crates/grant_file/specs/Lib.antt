@@ -1,11 +1,9 @@
 pub mod Equality
 pub mod Faults
-pub mod FieldNames
 pub mod FieldWord
 pub mod Fields
 pub mod First
 pub mod Keys
 pub mod Lists
-pub mod Reads
 pub mod Shapes
 pub mod Values

@@ -6,7 +6,7 @@ use Rattle.std.specs.Ordering.{nat_cmp}
 use Rattle.dci_fields.specs.declared.fault.Given.{Given}
 use Rattle.grant_file.specs.declared.grants.Grant.{Grant}
 use Rattle.grant_file.specs.declared.grants.GrantList.{GrantList}
-use Rattle.grant_file.specs.FieldNames.{field_named}
+use Rattle.dci_fields.specs.Words.{field_named}
 use Rattle.rrc_settings.specs.AggregationLevels.{is_level}
 use Rattle.grant_file.specs.Shapes.{slots_of_frame}
 

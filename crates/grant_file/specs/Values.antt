@@ -1,22 +1,19 @@
 -- The grants that a JSON value spells where it has no fault.
-use Rattle.std.specs.Prelude.{ℕ, List, map, cond, codes, bytes_eq}
+use Rattle.std.specs.Prelude.{ℕ, List, map, unwrap_or}
 use Rattle.dci_fields.specs.declared.formats.Format.{Format}
-use Rattle.dci_fields.specs.declared.formats.Format.TheVariants as formats
+use Rattle.dci_fields.specs.declared.formats.Format.TheVariants.{F00}
+use Rattle.dci_fields.specs.Formats.{format_named}
 use Rattle.serde_json.specs.Data.{Data}
-use Rattle.settings_json.specs.Kinds.{number_in, optional_number_in, text_in, elements_in, members_in}
+use Rattle.json_form.specs.Kinds.{number_in, optional_number_in, text_in, elements_in, members_in}
 use Rattle.grant_file.specs.declared.grants.Grant.{Grant}
 use Rattle.grant_file.specs.declared.grants.GrantList.{GrantList}
 use Rattle.grant_file.specs.declared.place.GrantKey.TheVariants as keys
 use Rattle.grant_file.specs.Faults.{names}
 use Rattle.grant_file.specs.Fields.{given_in, words_in}
 
--- the format that a word names
+-- the format that a word names; F00 where it names none, as 0 stands for no number
 abbrev pub format_of : List ℕ → Format
-format_of word =
-    cond (bytes_eq word (codes "0_0")) formats.F00
-    (cond (bytes_eq word (codes "1_0")) formats.F10
-    (cond (bytes_eq word (codes "order")) formats.Order
-    (cond (bytes_eq word (codes "0_1")) formats.F01 formats.F11)))
+format_of word = unwrap_or (format_named word) F00
 
 -- a grant
 unfoldable pub grant_value : Data → Grant

@@ -2,19 +2,16 @@
 //! reason.
 #![tactic(auto)]
 
-mod error;
 mod fields;
+mod format;
 mod grants;
 mod leaves;
-mod objects;
 mod place;
 mod reading;
 mod same;
-mod texts;
 mod word;
 
-pub use error::GrantsError;
 pub use grants::{Grant, GrantList};
-pub use place::{GrantFault, GrantKey, GrantPlace};
+pub use place::{GrantFault, GrantKey, GrantPlace, GrantsError};
 pub use reading::read_grants;
 pub use word::FieldWord;

@@ -1,9 +1,10 @@
 //! Where a list of grants is at fault, and why.
 ghost use Rattle.std.specs.Prelude.{◌≡◌};
 ghost use Rattle.grant_file.specs.Keys.{word_of};
-ghost use Rattle.grant_file.specs.Faults.{fault_at};
+ghost use Rattle.grant_file.specs.Faults.{whole_at};
 
-use rrc_settings::Reason;
+use json_form::{FileFault, JsonError};
+use rrc_settings::{FaultPlace, Reason};
 
 /// A key of a list of grants or of a grant: one variant for each word, and one for the whole.
 #[derive(Clone, Copy, Debug, PartialEq, Eq)]
@@ -78,9 +79,51 @@ impl GrantKey {
     }
 }
 
-/// The fault of the value that stands at a place.
-pub(crate) fn fault_at(at: &GrantPlace, reason: Reason) -> GrantFault
-    ensures { result ≡ fault_at at.now reason }
+/// The whole of the list, or of one of its grants.
+pub(crate) fn whole_at(grant: Option<u16>) -> GrantPlace
+    ensures { result ≡ whole_at grant }
 {
-    GrantFault { place: *at, reason }
+    GrantPlace {
+        grant,
+        key: GrantKey::Whole,
+    }
 }
+
+impl FaultPlace for GrantPlace {
+    ghost use Rattle.grant_file.specs.Faults.{names};
+
+    type Key = GrantKey;
+
+    type Fault = GrantFault;
+
+    ghost names = { names };
+
+    ghost has_room = { λ _. Unit {0} };
+
+    fn text(key: GrantKey) -> &'static str {
+        key.text()
+    }
+
+    fn key(&self, key: GrantKey) -> GrantPlace {
+        GrantPlace {
+            grant: self.grant,
+            key,
+        }
+    }
+
+    fn index(&self, index: usize) -> GrantPlace {
+        whole_at(Some(index as u16))
+    }
+
+    fn fault(&self, reason: Reason) -> GrantFault {
+        GrantFault {
+            place: *self,
+            reason,
+        }
+    }
+}
+
+impl FileFault for GrantFault {}
+
+/// Why a list of grants is not read.
+pub type GrantsError = JsonError<GrantFault>;

@@ -3,7 +3,8 @@ use Rattle.std.proofs.Common.{◌≡◌, Bool, true, false, List, [], ◌∷◌,
 use Rattle.rrc_settings.specs.Faults.{unless, first_of}
 
 -- where checks in order find none, the first finds none, and neither do the later ones
-pub first_none : {F : Type 0} (found : Option F) (later : List (Option F)) → first_of (found ∷ later) ≡ None → (found ≡ None) × (first_of later ≡ None)
+pub first_none : {F : Type 0} (found : Option F) (later : List (Option F)) → first_of (found ∷ later) ≡ None
+    → (found ≡ None) × (first_of later ≡ None)
 first_none None later e = (refl, e)
 first_none (Some fault) later e = cc
 

@@ -1,6 +1,6 @@
 -- Aggregation levels: how many CCEs a candidate has (3GPP TS 38.211, 7.3.2.1).
 use Rattle.std.specs.Prelude.{ℕ, Bool, List, [], ◌∷◌, slice_index}
-use Rattle.rrc_settings.specs.Table.{is_one_of}
+use Rattle.rrc_settings.specs.Numbers.{is_one_of}
 
 -- the aggregation levels, rising
 abbrev pub aggregation_levels : List ℕ

@@ -55,3 +55,8 @@ each_after judge at xs = first_in judge at [] xs
 -- the first fault of a list's elements, each judged alone
 abbrev pub each : {A : Type 0} → (Steps → A → Finding) → Steps → List A → Finding
 each judge at xs = first_in (λ earlier. judge) at [] xs
+
+-- what is found in a value, where there is one
+abbrev pub if_given : {T : Type 0} → (Steps → T → Finding) → Steps → Option T → Finding
+if_given judge at None = None
+if_given judge at (Some x) = judge at x

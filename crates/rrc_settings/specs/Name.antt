@@ -1,10 +1,7 @@
 -- The name of a handset: 1 to 16 ASCII letters, digits or `_`.
-use Rattle.std.specs.Prelude.{ℕ, Bool, List, length, nat_le, nat_eq, ◌&&◌, ◌||◌}
+use Rattle.std.specs.Prelude.{ℕ, Bool, List, length, nat_eq, ◌&&◌, ◌||◌}
 use Rattle.std.specs.List.{list_all}
-
--- a number from low to high
-abbrev pub is_from_to : ℕ → ℕ → ℕ → Bool
-is_from_to low high n = nat_le low n && nat_le n high
+use Rattle.rrc_settings.specs.Numbers.{is_from_to}
 
 -- an ASCII letter, a digit or `_`
 abbrev pub is_name_byte : ℕ → Bool

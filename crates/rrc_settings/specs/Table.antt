@@ -1,6 +1,6 @@
 -- The keys of each object of the settings, in order, each with its kind and the range of its numbers (3GPP TS 38.331, 6.3.2).
-use Rattle.std.specs.Prelude.{ℕ, Bool, List, [], ◌∷◌, length, map, Option, Some, None, nat_eq, true, false, codes, bytes_eq, ◌&&◌}
-use Rattle.std.specs.List.{list_all, list_any}
+use Rattle.std.specs.Prelude.{ℕ, Bool, List, [], ◌∷◌, length, map, Option, Some, None, nat_eq, true, false, ◌&&◌}
+use Rattle.std.specs.List.{list_all}
 use Rattle.rrc_settings.specs.declared.words.Key.{Key}
 use Rattle.rrc_settings.specs.declared.words.Key.TheVariants as keys
 use Rattle.rrc_settings.specs.declared.place.Reason.TheVariants.{OutOfRange}
@@ -12,10 +12,13 @@ use Rattle.rrc_settings.specs.declared.settings.UplinkFields.{UplinkFields}
 use Rattle.rrc_settings.specs.declared.settings.DownlinkFields.{DownlinkFields}
 use Rattle.rrc_settings.specs.declared.settings.Handset.{Handset}
 use Rattle.rrc_settings.specs.declared.settings.RawCell.{RawCell}
-use Rattle.rrc_settings.specs.Name.{is_from_to, is_name}
-use Rattle.rrc_settings.specs.Faults.{Steps, Finding, ◌▸◌, fault_at, unless, first_of, each}
+use Rattle.rrc_settings.specs.Name.{is_name}
+use Rattle.rrc_settings.specs.Faults.{Steps, Finding, ◌▸◌, fault_at, unless, first_of, each, if_given}
+use Rattle.rrc_settings.specs.Numbers.{is_from_to, is_one_of}
+use Rattle.rrc_settings.specs.NamedValues.{is_named, set_kind_words, codebook_words, allocation_words}
 
--- the kinds of a value: a whole number, a text of a form, true or false, so many numbers, an object, a list of objects of a least and a most length
+-- the kinds of a value: a whole number, a text of a form, true or false, so many numbers, an object, a list of
+-- objects of a least and a most length
 pub data Kind : Type 0 where
   whole : Kind
   text : (List ℕ → Bool) → Kind
@@ -43,11 +46,6 @@ in_range at key range n = unless (fault_at (at ▸ key) OutOfRange) (range n)
 abbrev pub in_range_if_given : Steps → Key → (ℕ → Bool) → Option ℕ → Finding
 in_range_if_given at key range None = None
 in_range_if_given at key range (Some n) = in_range at key range n
-
--- what is found in a value, where there is one
-abbrev pub if_given : {T : Type 0} → (Steps → T → Finding) → Steps → Option T → Finding
-if_given judge at None = None
-if_given judge at (Some x) = judge at x
 
 -- a list's length, and then its elements
 abbrev pub list_ranges : {T : Type 0} → Key → ℕ → ℕ → (Steps → T → Finding) → Steps → List T → Finding
@@ -109,21 +107,13 @@ inner_list key low high judge field = record {
 abbrev pub ranges_by : {T : Type 0} → List (Row T) → Steps → T → Finding
 ranges_by rows at x = first_of (map (λ r. r.range at x) rows)
 
--- one of the numbers of a list
-abbrev pub is_one_of : List ℕ → ℕ → Bool
-is_one_of ns n = list_any (nat_eq n) ns
-
--- one of the words of a list
-abbrev pub is_word_of : List (List ℕ) → List ℕ → Bool
-is_word_of words word = list_any (bytes_eq word) words
-
 -- a text of so many characters `0` or `1`
 abbrev pub is_bits : ℕ → List ℕ → Bool
 is_bits count word = nat_eq (length word) count && list_all (is_from_to 48 49) word
 
 -- the ways to grant blocks
 abbrev pub is_allocation : List ℕ → Bool
-is_allocation = is_word_of (codes "type0" ∷ codes "type1" ∷ codes "dynamic" ∷ [])
+is_allocation = is_named allocation_words
 
 -- how many code block groups there may be
 abbrev pub is_group_limit : ℕ → Bool
@@ -179,7 +169,7 @@ abbrev pub set_table : List (Row SearchSet)
 set_table
     = number keys.Number (is_from_to 1 39) (λ (s : SearchSet). s.number)
     ∷ number keys.Coreset (is_from_to 1 11) (λ (s : SearchSet). s.coreset)
-    ∷ text_of_form keys.Kind (is_word_of (codes "common" ∷ codes "fallback" ∷ codes "specific" ∷ []))
+    ∷ text_of_form keys.Kind (is_named set_kind_words)
     ∷ number keys.Period is_period (λ (s : SearchSet). s.period)
     ∷ number keys.Offset (is_from_to 0 2559) (λ (s : SearchSet). s.offset)
     ∷ number_or_default keys.Duration (is_from_to 1 2559) (λ (s : SearchSet). s.duration)
@@ -246,7 +236,7 @@ handset_table
     ∷ number keys.Rnti (is_from_to 1 65519) (λ (h : Handset). h.rnti)
     ∷ inner keys.Downlink bwp_ranges (λ (h : Handset). h.downlink)
     ∷ inner keys.Uplink bwp_ranges (λ (h : Handset). h.uplink)
-    ∷ text_of_form keys.Codebook (is_word_of (codes "semi_static" ∷ codes "dynamic" ∷ []))
+    ∷ text_of_form keys.Codebook (is_named codebook_words)
     ∷ inner_list keys.Coresets 1 3 coreset_ranges (λ (h : Handset). h.coresets.items)
     ∷ inner_list keys.Sets 1 10 set_ranges (λ (h : Handset). h.sets.items)
     ∷ optional_inner keys.UplinkFields uplink_ranges (λ (h : Handset). h.uplink_fields)

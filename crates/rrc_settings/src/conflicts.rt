@@ -1,9 +1,9 @@
 //! What the settings of a handset may not say together, in order.
 ghost use Rattle.std.specs.Prelude.{◌≡◌, ◌<◌, ◌≤◌, ◌||◌, ◌&&◌, not, [], nat_eq, nat_lt, is_none, bytes_eq, length, IfOk, Some};
 ghost use Rattle.std.specs.List.{list_any};
-ghost use Rattle.rrc_settings.specs.Faults.{◌▸◌, found_by, each_after};
-ghost use Rattle.rrc_settings.specs.Table.{if_given};
-ghost use Rattle.rrc_settings.specs.Conflicts.{conflict, end_of, coreset_numbered, is_specific, is_semi_static, set_conflicts, uplink_conflicts, downlink_conflicts, handset_conflicts, cell_conflicts};
+ghost use Rattle.rrc_settings.specs.Faults.{◌▸◌, found_by, each_after, if_given};
+ghost use Rattle.rrc_settings.specs.Conflicts.{conflict, is_semi_static, uplink_conflicts, downlink_conflicts};
+ghost use Rattle.rrc_settings.specs.Conflicts.{handset_conflicts, cell_conflicts};
 ghost use Rattle.rrc_settings.specs.declared.words.Key.TheVariants as keys;
 
 use crate::coreset_conflicts::coresets_conflicts;
@@ -80,20 +80,24 @@ fn has_rnti(handsets: &[Handset], rnti: u16) -> bool
     handsets.iter().any(|earlier| earlier.rnti == rnti)
 }
 
-/// The conflicts of a handset with the earlier ones, with a carrier of so many blocks and within itself.
+/// The conflicts of a handset with the earlier ones, with its cell and within itself.
 #[tactic(auto, unfolding(crate::specs::Conflicts::handset_conflicts))]
 fn handset_conflicts(
-    blocks: u16,
+    cell: &RawCell,
     earlier: &[Handset],
     at: &Place,
     handset: &Handset,
 ) -> Result<(), SettingsFault>
     requires { length at.now.steps.items ≤ 2 }
-    ensures { found_by result ≡ handset_conflicts blocks earlier.now at.now.steps.items handset.now }
+    ensures { found_by result ≡ handset_conflicts cell.now earlier.now at.now.steps.items handset.now }
 {
     refuse_if(at, Key::Name, has_name(earlier, &handset.name))?;
     refuse_if(at, Key::Rnti, has_rnti(earlier, handset.rnti))?;
-    refuse_if(at, Key::Downlink, handset.downlink.end() > blocks as u32)?;
+    refuse_if(
+        at,
+        Key::Downlink,
+        handset.downlink.end() > cell.blocks as u32,
+    )?;
     refuse_if(at, Key::Uplink, handset.uplink.end() > MOST_BLOCKS as u32)?;
     let coresets = at.key(Key::Coresets);
     coresets_conflicts(&handset.downlink, &coresets, handset.coresets.as_slice())?;
@@ -109,13 +113,13 @@ fn handset_conflicts(
 
 /// The conflicts of a list of handsets.
 #[tactic(auto, using(crate::proofs::Each::first_in_next))]
-fn handsets_conflicts(blocks: u16, at: &Place, handsets: &[Handset]) -> Result<(), SettingsFault>
+fn handsets_conflicts(cell: &RawCell, at: &Place, handsets: &[Handset]) -> Result<(), SettingsFault>
     requires few { length handsets.now ≤ 64 }
     requires room { length at.now.steps.items ≤ 1 }
-    ensures { found_by result ≡ each_after (handset_conflicts blocks) at.now.steps.items handsets.now }
+    ensures { found_by result ≡ each_after (handset_conflicts cell.now) at.now.steps.items handsets.now }
 {
     for (index, handset) in handsets.iter().enumerate() {
-        handset_conflicts(blocks, &handsets[..index], &at.index(index), handset)?;
+        handset_conflicts(cell, &handsets[..index], &at.index(index), handset)?;
     }
     Ok(())
 }
@@ -127,5 +131,5 @@ pub(crate) fn cell_conflicts(raw: &RawCell) -> Result<(), SettingsFault>
     ensures { found_by result ≡ cell_conflicts raw.now }
 {
     let at = Place::top().key(Key::Handsets);
-    handsets_conflicts(raw.blocks, &at, raw.handsets.as_slice())
+    handsets_conflicts(raw, &at, raw.handsets.as_slice())
 }

@@ -1,49 +1,31 @@
 //! What a CORESET may not say together (3GPP TS 38.211, 7.3.2.2).
-ghost use Rattle.std.specs.Prelude.{◌≡◌, ◌+◌, ◌*◌, ◌%◌, ◌^◌, ◌<◌, ◌≤◌, not, nat_eq, length};
+ghost use Rattle.std.specs.Prelude.{◌≡◌, ◌≤◌, nat_eq, length};
 ghost use Rattle.std.specs.List.{list_any};
 ghost use Rattle.rrc_settings.specs.Faults.{found_by, each_after};
-ghost use Rattle.rrc_settings.specs.Conflicts.{bundle_differs, cces_of, coreset_conflicts, end_of, group_count, has_bit, interleave_conflicts, reaches_outside, rows_differ};
+ghost use Rattle.rrc_settings.specs.GroupBits.{bits_reach};
+ghost use Rattle.rrc_settings.specs.Conflicts.{bundle_differs, rows_differ, reaches_outside};
+ghost use Rattle.rrc_settings.specs.Conflicts.{interleave_conflicts, coreset_conflicts};
 
 use crate::conflicts::refuse_if;
-use crate::groups::{group_block, has_bit};
+use crate::groups::{count_of_groups, group_block, has_bit};
 use crate::{Bwp, Coreset, Interleave, Key, Place, SettingsFault};
 
-impl Bwp {
-    /// The block after its last one.
-    pub fn end(&self) -> u32
-        ensures { result ≡ end_of self.now }
-    {
-        self.start as u32 + self.size as u32
-    }
-}
-
-impl Coreset {
-    /// How many CCEs it has: each is six REGs, a block in one symbol.
-    pub fn cces(&self) -> u32
-        ensures value { result ≡ cces_of self.now }
-        ensures fits { result < 2 ^ 22 }
-    {
-        group_count(self.groups) * self.duration as u32
-    }
-}
-
-/// How many groups of six blocks there are.
-#[tactic(auto, unfolding(crate::specs::Conflicts::group_count))]
-fn group_count(groups: u64) -> u32
-    ensures value { result ≡ group_count groups }
-    ensures most { result ≤ 64 }
-{
-    (0..64).filter(|group| has_bit(groups, *group)).count() as u32
-}
-
-/// Whether a group reaches outside the bandwidth part.
-#[tactic(auto, unfolding(crate::specs::Conflicts::reaches_outside))]
-fn reaches_outside(bwp: &Bwp, groups: u64) -> bool
-    ensures { result ≡ reaches_outside bwp.now groups }
+/// Whether the group of a bit that is one reaches outside the bandwidth part.
+#[tactic(auto, unfolding(crate::specs::GroupBits::bits_reach))]
+fn bits_reach(bwp: &Bwp, groups: u64) -> bool
+    ensures { result ≡ bits_reach bwp.now groups }
 {
     let start = bwp.start;
     let end = bwp.end();
     (0..64).any(|group| has_bit(groups, group) && end < group_block(start, group) + 6)
+}
+
+/// Whether a group reaches outside the bandwidth part.
+#[tactic(auto, using(crate::proofs::GroupTests::groups_reach))]
+fn reaches_outside(bwp: &Bwp, groups: u64) -> bool
+    ensures { result ≡ reaches_outside bwp.now groups }
+{
+    bits_reach(bwp, groups)
 }
 
 /// Whether a bundle does not go with a duration.
@@ -102,7 +84,7 @@ fn coreset_conflicts(
     ensures { found_by result ≡ coreset_conflicts downlink.now earlier.now at.now.steps.items coreset.now }
 {
     refuse_if(at, Key::Number, has_number(earlier, coreset.number))?;
-    let is_empty = group_count(coreset.groups) == 0;
+    let is_empty = count_of_groups(coreset.groups) == 0;
     refuse_if(
         at,
         Key::Groups,

@@ -1,6 +1,8 @@
 //! The settings that pass every check.
-ghost use Rattle.std.specs.Prelude.{◌≡◌, ◌<◌, ◌↔◌, All, Some, IfErr, IfOk, IfSome, IsNone, IsTrue, bytes_eq, get_or, length, position};
+ghost use Rattle.std.specs.Prelude.{◌≡◌, ◌<◌, ◌↔◌, All, Some, IfErr, IfOk, IfSome, IsNone, IsTrue, bytes_eq, get_or};
+ghost use Rattle.std.specs.Prelude.{length, position};
 ghost use Rattle.rrc_settings.specs.Legal.{first_fault, IsLegal};
+ghost use Rattle.rrc_settings.specs.LegalCell.{IsLegalCell};
 
 use crate::conflicts::cell_conflicts;
 use crate::ranges::cell_ranges;
@@ -42,6 +44,7 @@ impl Cell {
     pub fn raw(&self) -> &RawCell
         ensures value { result.now ≡ self.now }
         ensures legal { IsLegal self.now }
+        ensures facts { IsLegalCell self.now }
     {
         &self.raw
     }

@@ -21,7 +21,7 @@ pub use items::Items;
 pub use legal::Cell;
 pub use levels::{LEVELS, is_level};
 pub use name::Name;
-pub use place::{Place, Reason, SettingsFault, Step};
+pub use place::{FaultPlace, Place, Reason, SettingsFault, Step};
 pub use same::{Same, is_same};
 pub use settings::{
     Allocation, Bwp, Codebook, Coreset, DownlinkFields, Handset, Interleave, RawCell, SearchSet,

@@ -1,6 +1,7 @@
 //! Where settings are at fault, and why.
 ghost use Rattle.std.specs.Prelude.{◌≡◌, ◌+◌, ◌^◌, ◌<◌, ◌≤◌, ◌∷◌, ◌++◌, [], length};
 ghost use Rattle.rrc_settings.specs.Faults.{◌▸◌, element, fault_at};
+ghost use Rattle.rrc_settings.specs.Naming.{Naming};
 
 use crate::Key;
 use arrayvec::ArrayVec;
@@ -95,16 +96,85 @@ impl Place {
         }
     }
 
+    /// The same steps.
+    fn copy(&self) -> Place
+        ensures { result ≡ self.now }
+    {
+        let mut steps = ArrayVec::new();
+        for step in self.steps.as_slice() {
+            steps.push(*step);
+        }
+        Place { steps }
+    }
+
     /// The place one step further.
     fn then(&self, step: Step) -> Place
         requires { length self.now.steps.items ≤ 5 }
         ensures { result.steps.items ≡ self.now.steps.items ++ step ∷ [] }
     {
-        let mut steps = ArrayVec::new();
-        for earlier in self.steps.as_slice() {
-            steps.push(*earlier);
-        }
-        steps.push(step);
-        Place { steps }
+        let mut place = self.copy();
+        place.steps.push(step);
+        place
+    }
+}
+
+/// A place in a JSON file: the words of the file's keys, what stands below a place at keys and elements, and how a fault
+/// there is named.
+pub trait FaultPlace: Drop {
+    /// The file's keys.
+    type Key: Copy;
+    /// The file's faults.
+    type Fault;
+
+    ghost names: { Naming Self.Key Self Self.Fault };
+
+    ghost has_room: { Self → Type 0 };
+
+    /// The word of a key.
+    fn text(key: Self::Key) -> &'static str
+        ensures { result.now ≡ names.word key };
+
+    /// The place of the value of a key in the object here.
+    fn key(&self, key: Self::Key) -> Self
+        requires { has_room self.now }
+        ensures { result ≡ names.below self.now key };
+
+    /// The place of an element of the list here.
+    fn index(&self, index: usize) -> Self
+        requires room { has_room self.now }
+        requires index { index < 2 ^ 16 }
+        ensures { result ≡ names.element self.now index };
+
+    /// The fault of the value here.
+    fn fault(&self, reason: Reason) -> Self::Fault
+        ensures { result ≡ names.fault self.now reason };
+}
+
+impl FaultPlace for Place {
+    ghost use Rattle.std.specs.Prelude.{◌≤◌, length};
+    ghost use Rattle.rrc_settings.specs.Naming.{names};
+
+    type Key = Key;
+
+    type Fault = SettingsFault;
+
+    ghost names = { names };
+
+    ghost has_room = { λ at. length at.steps.items ≤ 5 };
+
+    fn text(key: Key) -> &'static str {
+        key.text()
+    }
+
+    fn key(&self, key: Key) -> Place {
+        self.then(Step::Key(key))
+    }
+
+    fn index(&self, index: usize) -> Place {
+        self.then(Step::Index(index as u16))
+    }
+
+    fn fault(&self, reason: Reason) -> SettingsFault {
+        self.copy().fault(reason)
     }
 }

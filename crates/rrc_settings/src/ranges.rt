@@ -2,8 +2,9 @@
 ghost use Rattle.std.specs.Prelude.{◌≡◌, ◌≤◌, [], OnOk, length};
 ghost use Rattle.std.specs.List.{list_all};
 ghost use Rattle.rrc_settings.specs.Faults.{◌▸◌, fault_at, found_by, unless};
-ghost use Rattle.rrc_settings.specs.Name.{is_from_to};
-ghost use Rattle.rrc_settings.specs.Table.{in_range, is_one_of, list_ranges, is_candidate_count, is_period, bwp_ranges, interleave_ranges, coreset_ranges, set_ranges, handset_ranges, cell_ranges};
+ghost use Rattle.rrc_settings.specs.Numbers.{is_from_to, is_one_of};
+ghost use Rattle.rrc_settings.specs.Table.{in_range, list_ranges, is_candidate_count, is_period, bwp_ranges};
+ghost use Rattle.rrc_settings.specs.Table.{interleave_ranges, coreset_ranges, set_ranges, handset_ranges, cell_ranges};
 ghost use Rattle.rrc_settings.specs.declared.words.Key.TheVariants as keys;
 ghost use Rattle.rrc_settings.specs.declared.place.Reason.TheVariants as reasons;
 
@@ -117,7 +118,8 @@ fn coresets_ranges(at: &Place, coresets: &[Coreset]) -> Result<(), SettingsFault
 #[tactic(auto, unfolding(crate::specs::Faults::unless))]
 fn candidates_ranges(at: &Place, candidates: &[u16; 5]) -> Result<(), SettingsFault>
     requires { length at.now.steps.items ≤ 5 }
-    ensures { found_by result ≡ unless (fault_at (at.now.steps.items ▸ keys.Candidates) reasons.OutOfRange) (list_all is_candidate_count candidates.now) }
+    ensures { found_by result ≡ unless (fault_at (at.now.steps.items ▸ keys.Candidates) reasons.OutOfRange)
+        (list_all is_candidate_count candidates.now) }
 {
     if are_candidate_counts(candidates) {
         Ok(())

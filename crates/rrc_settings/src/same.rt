@@ -1,7 +1,10 @@
 //! `==` of the settings, which holds exactly of equal values.
 ghost use Rattle.std.specs.Prelude.{◌≡◌, ◌↔◌, IsTrue, Decides};
 ghost use Rattle.std.proofs.lemmas.Slice.Eq.{bytes_eq-Decides};
-ghost use Rattle.rrc_settings.specs.Equality.{decides_list, decides_array_vec, decides_set_kind, decides_codebook, decides_allocation, decides_bwp, decides_interleave, decides_coreset, decides_search_set, decides_uplink_fields, decides_downlink_fields, decides_handset, decides_raw_cell};
+ghost use Rattle.rrc_settings.specs.Equality.{decides_list, decides_array_vec, decides_set_kind, decides_codebook};
+ghost use Rattle.rrc_settings.specs.Equality.{decides_allocation, decides_bwp, decides_interleave, decides_coreset};
+ghost use Rattle.rrc_settings.specs.Equality.{decides_search_set, decides_uplink_fields, decides_downlink_fields};
+ghost use Rattle.rrc_settings.specs.Equality.{decides_handset, decides_raw_cell};
 
 use crate::{
     Allocation, Bwp, Codebook, Coreset, DownlinkFields, Handset, Interleave, Items, Name, RawCell,

@@ -2,7 +2,9 @@
 ghost use Rattle.std.specs.Prelude.{◌≡◌, ◌≤◌, nat_eq, length, option_copied};
 ghost use Rattle.std.specs.List.{list_any};
 ghost use Rattle.rrc_settings.specs.Faults.{found_by, each_after};
-ghost use Rattle.rrc_settings.specs.Conflicts.{asks_above, coreset_numbered, ends_after_slot, is_common, is_specific, set_conflicts, timing_conflicts};
+ghost use Rattle.rrc_settings.specs.HandsetsOfCell.{coreset_numbered};
+ghost use Rattle.rrc_settings.specs.SetKinds.{is_common, is_specific};
+ghost use Rattle.rrc_settings.specs.Conflicts.{asks_above, ends_after_slot, set_conflicts, timing_conflicts};
 
 use crate::conflicts::refuse_if;
 use crate::groups::has_bit;
@@ -89,7 +91,7 @@ fn timing_conflicts(
 }
 
 /// The conflicts of a set with the earlier ones and with its handset.
-#[tactic(auto, unfolding(crate::specs::Conflicts::set_conflicts))]
+#[tactic(auto, unfolding(crate::specs::Conflicts::set_conflicts, crate::specs::Conflicts::timing_conflicts))]
 fn set_conflicts(
     handset: &Handset,
     earlier: &[SearchSet],

@@ -1,4 +1,9 @@
 //! The settings of a cell as they are read, before their checks.
+ghost use Rattle.std.specs.Prelude.{◌≡◌, ◌<◌, ◌^◌};
+ghost use Rattle.rrc_settings.specs.BandwidthParts.{end_of};
+ghost use Rattle.rrc_settings.specs.ControlGroups.{cces_of};
+
+use crate::groups::count_of_groups;
 use crate::{Items, Name};
 use arrayvec::ArrayVec;
 
@@ -9,6 +14,15 @@ pub struct Bwp {
     pub start: u16,
     /// How many blocks, 6 to 275.
     pub size: u16,
+}
+
+impl Bwp {
+    /// The block after its last one.
+    pub fn end(&self) -> u32
+        ensures { result ≡ end_of self.now }
+    {
+        self.start as u32 + self.size as u32
+    }
 }
 
 /// How the CCEs of a CORESET are interleaved (3GPP TS 38.211, 7.3.2.2).
@@ -35,6 +49,16 @@ pub struct Coreset {
     pub interleave: Option<Interleave>,
     /// The identity of its demodulation reference signal, where it has one.
     pub dmrs_id: Option<u16>,
+}
+
+impl Coreset {
+    /// How many CCEs it has: each is six REGs, a block in one symbol.
+    pub fn cces(&self) -> u32
+        ensures value { result ≡ cces_of self.now }
+        ensures fits { result < 2 ^ 22 }
+    {
+        count_of_groups(self.groups) * self.duration as u32
+    }
 }
 
 /// Which formats a search space set is for, and at which size.

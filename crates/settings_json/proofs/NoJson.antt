@@ -1,23 +1,22 @@
 -- The first fault is that the bytes are no JSON exactly where they are none.
-use Rattle.std.proofs.Common.{◌≡◌, ℕ, List, [], ap, ◌∙◌}
-use Rattle.std.specs.Prelude.{Some, Result, Ok, Err}
+use Rattle.std.proofs.Common.{◌≡◌, ℕ, List, [], ap}
+use Rattle.std.specs.Prelude.{Some}
 use Rattle.rrc_settings.specs.declared.place.Reason.TheVariants.{NotJson}
 use Rattle.rrc_settings.specs.declared.place.SettingsFault.{SettingsFault}
 use Rattle.rrc_settings.specs.Faults.{Steps, fault_at}
 use Rattle.rrc_settings.specs.Legal.{first_fault}
+use Rattle.rrc_settings.specs.Naming.{whole}
 use Rattle.serde_json.specs.Data.{Data}
-use Rattle.settings_json.specs.First.{Gives, first_fault_in, first_fault_of}
-use Rattle.settings_json.specs.declared.error.SettingsError.{SettingsError}
-use Rattle.settings_json.specs.declared.error.SettingsError.TheVariants.{Fault, NoMemory}
+use Rattle.settings_json.specs.First.{first_fault_in, first_fault_of}
 use Rattle.settings_json.specs.NoJson.{NotJsonExactly, NotJsonOfTheWhole}
-use Rattle.settings_json.specs.Texts.{IsNoJson}
+use Rattle.json_form.specs.Texts.{IsNoJson}
 use Rattle.settings_json.specs.Values.{raw_value}
 use Rattle.settings_json.proofs.OtherConflicts as conflicts
 use Rattle.settings_json.proofs.OtherFaults.{IsOther}
 use Rattle.settings_json.proofs.OtherRanges as ranges
-use Rattle.settings_json.proofs.OtherReasons.{other_first_of_two, other_found}
+use Rattle.json_form.proofs.OtherReasons.{other_first_of_two, other_found}
 use Rattle.settings_json.proofs.OtherShapes as shapes
-use Rattle.settings_json.proofs.Readings.{found_of_no_json, no_json_where}
+use Rattle.json_form.proofs.Readings.{found_of_no_json, no_json_where}
 
 -- no check of settings finds it
 cell_judges : (d : Data) → IsOther (first_fault (raw_value d))
@@ -27,20 +26,11 @@ cell_judges d = other_first_of_two _ _ (ranges.cell_judges (raw_value d)) (confl
 -- no check of a value finds it
 value_judges : (d : Data) → IsOther (first_fault_of d)
 unfolding first_fault_of
-value_judges d = other_first_of_two _ _ (shapes.cell_judges [] d) (cell_judges d)
+value_judges d = other_first_of_two _ _ (shapes.cell_judges whole d) (cell_judges d)
 
 -- so it is found in no value
-never : (at : Steps) (d : Data) → first_fault_of d ≡ Some (fault_at at NotJson) → ⊥
+pub never : (at : Steps) (d : Data) → first_fault_of d ≡ Some (fault_at at NotJson) → ⊥
 never at d e = other_found (first_fault_of d) (fault_at at NotJson) (value_judges d) e
-
--- no answer to a value has it
-pub never_given : {T : Type 0} (d : Data) (value : T) (result : Result T SettingsError) (at : Steps) →
-    Gives (first_fault_of d) value result → result ≡ Err (Fault (fault_at at NotJson)) → ⊥
-never_given d value (Ok x) at g e = cc
-never_given d value (Err NoMemory) at g e = cc
-never_given d value (Err (Fault fault)) at g e =
-    let same : fault ≡ fault_at at NotJson = cc in
-    never at d (g ∙ ap Some same)
 
 -- the bytes are no JSON where a fault of this reason is found, at any place
 pub no_json : (bytes : List ℕ) (at : Steps) → first_fault_in bytes ≡ Some (fault_at at NotJson) → IsNoJson bytes

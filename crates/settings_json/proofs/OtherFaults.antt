@@ -3,10 +3,9 @@ use Rattle.std.proofs.Common.{List, [], ◌∷◌, ◌++◌, length}
 use Rattle.std.specs.Prelude.{Option, None, Some}
 use Rattle.rrc_settings.specs.declared.place.Reason.{Reason}
 use Rattle.rrc_settings.specs.declared.place.SettingsFault.{SettingsFault}
-use Rattle.rrc_settings.specs.Faults.{Steps, Finding, element, first_in}
-use Rattle.rrc_settings.specs.Table.{if_given}
-use Rattle.settings_json.proofs.OtherReasons as others
-use Rattle.settings_json.proofs.OtherReasons.{other_none, other_first_of_two}
+use Rattle.rrc_settings.specs.Faults.{Steps, Finding, element, first_in, if_given}
+use Rattle.json_form.proofs.OtherReasons as others
+use Rattle.json_form.proofs.OtherReasons.{other_none, other_first_of_two}
 
 -- the reason of a fault
 abbrev pub reason_of : SettingsFault → Reason

@@ -5,10 +5,13 @@ use Rattle.rrc_settings.specs.declared.words.Key.{Key}
 use Rattle.rrc_settings.specs.declared.place.Reason.TheVariants.{OutOfRange}
 use Rattle.rrc_settings.specs.declared.settings.RawCell.{RawCell}
 use Rattle.rrc_settings.specs.Faults.{Steps, Finding, ◌▸◌, fault_at}
-use Rattle.rrc_settings.specs.Name.{is_from_to}
-use Rattle.rrc_settings.specs.Table.{Row, in_range, in_range_if_given, list_ranges, ranges_by, bwp_table, bwp_ranges, interleave_table, interleave_ranges, coreset_table, coreset_ranges, set_table, set_ranges, uplink_table, uplink_ranges, downlink_table, downlink_ranges, handset_table, handset_ranges, cell_table, cell_ranges}
+use Rattle.rrc_settings.specs.Numbers.{is_from_to}
+use Rattle.rrc_settings.specs.Table.{Row, in_range, in_range_if_given, list_ranges, ranges_by, bwp_table, bwp_ranges}
+use Rattle.rrc_settings.specs.Table.{interleave_table, interleave_ranges, coreset_table, coreset_ranges, set_table}
+use Rattle.rrc_settings.specs.Table.{set_ranges, uplink_table, uplink_ranges, downlink_table, downlink_ranges}
+use Rattle.rrc_settings.specs.Table.{handset_table, handset_ranges, cell_table, cell_ranges}
 use Rattle.settings_json.proofs.OtherFaults.{reason_of, IsOther, other_first_in, other_if_given}
-use Rattle.settings_json.proofs.OtherReasons.{AllOther, other_none, other_unless, other_first_of, other_first_of_two}
+use Rattle.json_form.proofs.OtherReasons.{AllOther, other_none, other_unless, other_first_of, other_first_of_two}
 
 -- checks of a value's numbers that find only other things
 abbrev pub Judges : {T : Type 0} → (Steps → T → Finding) → Type 0
@@ -36,7 +39,8 @@ given_judges at key range (Some n) = number_judges at key range n
 list_judges : {T : Type 0} (key : Key) (low high : ℕ) (judge : Steps → T → Finding) (at : Steps) (xs : List T) → Judges judge →
     IsOther (list_ranges key low high judge at xs)
 list_judges key low high judge at xs h =
-    other_first_of_two _ _ (number_judges at key (is_from_to low high) (length xs)) (other_first_in (λ earlier. judge) (at ▸ key) [] xs (λ before. h))
+    let size = number_judges at key (is_from_to low high) (length xs) in
+    other_first_of_two _ _ size (other_first_in (λ earlier. judge) (at ▸ key) [] xs (λ before. h))
 
 -- a bandwidth part
 bwp_judges : Judges bwp_ranges
@@ -51,7 +55,8 @@ interleave_judges = by_rows interleave_table (λ at x. search (number_judges, gi
 -- a CORESET
 coreset_judges : Judges coreset_ranges
 unfolding coreset_ranges
-coreset_judges = by_rows coreset_table (λ at x. search (number_judges, given_judges, other_none, other_if_given, interleave_judges))
+coreset_judges =
+    by_rows coreset_table (λ at x. search (number_judges, given_judges, other_none, other_if_given, interleave_judges))
 
 -- a search space set
 set_judges : Judges set_ranges
@@ -71,7 +76,19 @@ downlink_judges = by_rows downlink_table (λ at x. search (number_judges, other_
 -- a handset
 handset_judges : Judges handset_ranges
 unfolding handset_ranges
-handset_judges = by_rows handset_table (λ at x. search (number_judges, other_none, bwp_judges, list_judges, coreset_judges, set_judges, other_if_given, uplink_judges, downlink_judges))
+handset_judges =
+    by_rows handset_table (λ at x.
+    search (
+      number_judges,
+      other_none,
+      bwp_judges,
+      list_judges,
+      coreset_judges,
+      set_judges,
+      other_if_given,
+      uplink_judges,
+      downlink_judges,
+    ))
 
 -- the whole
 pub cell_judges : (raw : RawCell) → IsOther (cell_ranges raw)

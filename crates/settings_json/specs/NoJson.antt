@@ -3,7 +3,7 @@ use Rattle.std.specs.Prelude.{◌≡◌, ◌↔◌, ℕ, List, [], Some}
 use Rattle.rrc_settings.specs.declared.place.Reason.TheVariants.{NotJson}
 use Rattle.rrc_settings.specs.Faults.{Steps, fault_at}
 use Rattle.settings_json.specs.First.{first_fault_in}
-use Rattle.settings_json.specs.Texts.{IsNoJson}
+use Rattle.json_form.specs.Texts.{IsNoJson}
 
 -- it is so exactly where the bytes are no UTF-8, or have no reading as JSON
 abbrev pub NotJsonExactly : Type 0

@@ -1,5 +1,5 @@
 -- The settings that a JSON value spells where its shape is right.
-use Rattle.std.specs.Prelude.{ℕ, List, map, option_map, cond, codes, bytes_eq}
+use Rattle.std.specs.Prelude.{ℕ, List, map, option_map, unwrap_or}
 use Rattle.rrc_settings.specs.declared.words.Key.TheVariants as keys
 use Rattle.rrc_settings.specs.declared.settings.Allocation.{Allocation}
 use Rattle.rrc_settings.specs.declared.settings.Allocation.TheVariants as allocations
@@ -15,23 +15,23 @@ use Rattle.rrc_settings.specs.declared.settings.UplinkFields.{UplinkFields}
 use Rattle.rrc_settings.specs.declared.settings.DownlinkFields.{DownlinkFields}
 use Rattle.rrc_settings.specs.declared.settings.Handset.{Handset}
 use Rattle.rrc_settings.specs.declared.settings.RawCell.{RawCell}
+use Rattle.rrc_settings.specs.Naming.{names}
+use Rattle.rrc_settings.specs.NamedValues.{value_named, allocation_words, codebook_words, set_kind_words}
 use Rattle.serde_json.specs.Data.{Data}
-use Rattle.settings_json.specs.Kinds.{number_of, bits_value, number_in, optional_number_in, number_or_default_in, text_in, truth_in, elements_in, inner_at, value_at}
-use Rattle.settings_json.specs.Names.{names}
+use Rattle.json_form.specs.Kinds.{number_of, bits_value, number_in, optional_number_in, number_or_default_in}
+use Rattle.json_form.specs.Kinds.{text_in, truth_in, elements_in, inner_at, value_at}
 
 -- the way to grant blocks that a word names
 abbrev pub allocation_of : List ℕ → Allocation
-allocation_of word =
-    cond (bytes_eq word (codes "type0")) allocations.Type0 (cond (bytes_eq word (codes "type1")) allocations.Type1 allocations.Dynamic)
+allocation_of word = unwrap_or (value_named allocation_words word) allocations.Type0
 
 -- the layout of acknowledgements that a word names
 abbrev pub codebook_of : List ℕ → Codebook
-codebook_of word = cond (bytes_eq word (codes "semi_static")) codebooks.SemiStatic codebooks.Dynamic
+codebook_of word = unwrap_or (value_named codebook_words word) codebooks.SemiStatic
 
 -- the kind of a set that a word names
 abbrev pub set_kind_of : List ℕ → SetKind
-set_kind_of word =
-    cond (bytes_eq word (codes "common")) set_kinds.Common (cond (bytes_eq word (codes "fallback")) set_kinds.Fallback set_kinds.Specific)
+set_kind_of word = unwrap_or (value_named set_kind_words word) set_kinds.Common
 
 -- a bandwidth part
 unfoldable pub bwp_value : Data → Bwp

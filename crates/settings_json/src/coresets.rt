@@ -2,15 +2,13 @@
 ghost use Rattle.std.specs.Prelude.{◌≡◌, ◌≤◌, length, option_map};
 ghost use Rattle.rrc_settings.specs.declared.words.Key.TheVariants as keys;
 ghost use Rattle.serde_json.specs.View.{view};
-ghost use Rattle.settings_json.specs.Kinds.{entry, inner_at, may, must, value_at};
-ghost use Rattle.settings_json.specs.Names.{names};
-ghost use Rattle.settings_json.specs.Reads.{Reads};
+ghost use Rattle.json_form.specs.Kinds.{entry, inner_at, may, must, value_at};
+ghost use Rattle.rrc_settings.specs.Naming.{names};
+ghost use Rattle.json_form.specs.Reads.{Reads};
 ghost use Rattle.settings_json.specs.Shapes.{bwp, coreset, interleave};
 ghost use Rattle.settings_json.specs.Values.{bwp_value, coreset_value, interleave_value};
 
-use crate::leaves::{number_at, optional_number_at, required, value_at};
-use crate::objects::is_object_of;
-use crate::texts::bits_at;
+use json_form::{bits_at, is_object_of, number_at, optional_number_at, required, value_at};
 use rrc_settings::{Bwp, Coreset, Interleave, Key, Place, SettingsFault};
 use serde_json::Value;
 
@@ -18,7 +16,7 @@ use serde_json::Value;
 #[tactic(auto, unfolding(crate::specs::Shapes::bwp, crate::specs::Values::bwp_value))]
 fn bwp_of(at: &Place, value: &Value) -> Result<Bwp, SettingsFault>
     requires { length at.now.steps.items ≤ 5 }
-    ensures { Reads (bwp at.now.steps.items (view value.now)) (bwp_value (view value.now)) result }
+    ensures { Reads (bwp at.now (view value.now)) (bwp_value (view value.now)) result }
 {
     is_object_of(at, &[Key::Start, Key::Size], value)?;
     let start = number_at(at, value, Key::Start)?;
@@ -27,10 +25,11 @@ fn bwp_of(at: &Place, value: &Value) -> Result<Bwp, SettingsFault>
 }
 
 /// The bandwidth part at a key.
-#[tactic(auto, unfolding(rrc_settings::specs::Faults::unless, crate::specs::Kinds::entry))]
+#[tactic(auto, unfolding(rrc_settings::specs::Faults::unless, json_form::specs::Kinds::entry))]
 pub(crate) fn bwp_at(at: &Place, value: &Value, key: Key) -> Result<Bwp, SettingsFault>
     requires { length at.now.steps.items ≤ 4 }
-    ensures { Reads (entry names at.now.steps.items (view value.now) (must key bwp)) (bwp_value (inner_at names key (view value.now))) result }
+    ensures { Reads (entry names at.now (view value.now) (must key bwp))
+        (bwp_value (inner_at names key (view value.now))) result }
 {
     let found = required(at, value, key)?;
     bwp_of(&at.key(key), found)
@@ -40,7 +39,7 @@ pub(crate) fn bwp_at(at: &Place, value: &Value, key: Key) -> Result<Bwp, Setting
 #[tactic(auto, unfolding(crate::specs::Shapes::interleave, crate::specs::Values::interleave_value))]
 fn interleave_of(at: &Place, value: &Value) -> Result<Interleave, SettingsFault>
     requires { length at.now.steps.items ≤ 5 }
-    ensures { Reads (interleave at.now.steps.items (view value.now)) (interleave_value (view value.now)) result }
+    ensures { Reads (interleave at.now (view value.now)) (interleave_value (view value.now)) result }
 {
     is_object_of(at, &[Key::Bundle, Key::Rows, Key::Shift], value)?;
     let bundle = number_at(at, value, Key::Bundle)?;
@@ -54,13 +53,13 @@ fn interleave_of(at: &Place, value: &Value) -> Result<Interleave, SettingsFault>
 }
 
 /// The interleaver of a CORESET, where it has one.
-#[tactic(auto, unfolding(rrc_settings::specs::Faults::unless, crate::specs::Kinds::entry))]
+#[tactic(auto, unfolding(rrc_settings::specs::Faults::unless, json_form::specs::Kinds::entry))]
 fn optional_interleave_at(at: &Place, value: &Value) -> Result<Option<Interleave>, SettingsFault>
     requires { length at.now.steps.items ≤ 4 }
-    ensures { Reads (entry names at.now.steps.items (view value.now) (may keys.Interleave interleave))
+    ensures { Reads (entry names at.now (view value.now) (may keys.Interleave interleave))
         (option_map interleave_value (value_at names keys.Interleave (view value.now))) result }
 {
-    match value_at(value, Key::Interleave) {
+    match value_at::<Place>(value, Key::Interleave) {
         None => Ok(None),
         Some(found) => Ok(Some(interleave_of(&at.key(Key::Interleave), found)?)),
     }
@@ -70,7 +69,7 @@ fn optional_interleave_at(at: &Place, value: &Value) -> Result<Option<Interleave
 #[tactic(auto, unfolding(crate::specs::Shapes::coreset, crate::specs::Values::coreset_value))]
 pub(crate) fn coreset_of(at: &Place, value: &Value) -> Result<Coreset, SettingsFault>
     requires { length at.now.steps.items ≤ 4 }
-    ensures { Reads (coreset at.now.steps.items (view value.now)) (coreset_value (view value.now)) result }
+    ensures { Reads (coreset at.now (view value.now)) (coreset_value (view value.now)) result }
 {
     let keys = [
         Key::Number,

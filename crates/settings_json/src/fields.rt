@@ -2,15 +2,14 @@
 ghost use Rattle.std.specs.Prelude.{◌≤◌, length, option_map};
 ghost use Rattle.rrc_settings.specs.declared.words.Key.TheVariants as keys;
 ghost use Rattle.serde_json.specs.View.{view};
-ghost use Rattle.settings_json.specs.Kinds.{entry, may, value_at};
-ghost use Rattle.settings_json.specs.Names.{names};
-ghost use Rattle.settings_json.specs.Reads.{Reads};
+ghost use Rattle.json_form.specs.Kinds.{entry, may, value_at};
+ghost use Rattle.rrc_settings.specs.Naming.{names};
+ghost use Rattle.json_form.specs.Reads.{Reads};
 ghost use Rattle.settings_json.specs.Shapes.{downlink, uplink};
 ghost use Rattle.settings_json.specs.Values.{downlink_value, uplink_value};
 
-use crate::leaves::{number_at, truth_at, value_at};
-use crate::objects::is_object_of;
-use crate::texts::allocation_at;
+use crate::words::allocation_at;
+use json_form::{is_object_of, number_at, truth_at, value_at};
 use rrc_settings::{DownlinkFields, Key, Place, SettingsFault, UplinkFields};
 use serde_json::Value;
 
@@ -55,7 +54,7 @@ const DOWNLINK_KEYS: [Key; 15] = [
 #[tactic(auto, unfolding(crate::specs::Shapes::uplink, crate::specs::Values::uplink_value))]
 fn uplink_of(at: &Place, value: &Value) -> Result<UplinkFields, SettingsFault>
     requires { length at.now.steps.items ≤ 5 }
-    ensures { Reads (uplink at.now.steps.items (view value.now)) (uplink_value (view value.now)) result }
+    ensures { Reads (uplink at.now (view value.now)) (uplink_value (view value.now)) result }
 {
     is_object_of(at, &UPLINK_KEYS, value)?;
     Ok(UplinkFields {
@@ -77,16 +76,16 @@ fn uplink_of(at: &Place, value: &Value) -> Result<UplinkFields, SettingsFault>
 }
 
 /// What decides format 0_1, at its key, where the key is there.
-#[tactic(auto, unfolding(rrc_settings::specs::Faults::unless, crate::specs::Kinds::entry))]
+#[tactic(auto, unfolding(rrc_settings::specs::Faults::unless, json_form::specs::Kinds::entry))]
 pub(crate) fn optional_uplink_at(
     at: &Place,
     value: &Value,
 ) -> Result<Option<UplinkFields>, SettingsFault>
     requires { length at.now.steps.items ≤ 4 }
-    ensures { Reads (entry names at.now.steps.items (view value.now) (may keys.UplinkFields uplink))
+    ensures { Reads (entry names at.now (view value.now) (may keys.UplinkFields uplink))
         (option_map uplink_value (value_at names keys.UplinkFields (view value.now))) result }
 {
-    match value_at(value, Key::UplinkFields) {
+    match value_at::<Place>(value, Key::UplinkFields) {
         None => Ok(None),
         Some(found) => Ok(Some(uplink_of(&at.key(Key::UplinkFields), found)?)),
     }
@@ -96,7 +95,7 @@ pub(crate) fn optional_uplink_at(
 #[tactic(auto, unfolding(crate::specs::Shapes::downlink, crate::specs::Values::downlink_value))]
 fn downlink_of(at: &Place, value: &Value) -> Result<DownlinkFields, SettingsFault>
     requires { length at.now.steps.items ≤ 5 }
-    ensures { Reads (downlink at.now.steps.items (view value.now)) (downlink_value (view value.now)) result }
+    ensures { Reads (downlink at.now (view value.now)) (downlink_value (view value.now)) result }
 {
     is_object_of(at, &DOWNLINK_KEYS, value)?;
     Ok(DownlinkFields {
@@ -119,16 +118,16 @@ fn downlink_of(at: &Place, value: &Value) -> Result<DownlinkFields, SettingsFaul
 }
 
 /// What decides format 1_1, at its key, where the key is there.
-#[tactic(auto, unfolding(rrc_settings::specs::Faults::unless, crate::specs::Kinds::entry))]
+#[tactic(auto, unfolding(rrc_settings::specs::Faults::unless, json_form::specs::Kinds::entry))]
 pub(crate) fn optional_downlink_at(
     at: &Place,
     value: &Value,
 ) -> Result<Option<DownlinkFields>, SettingsFault>
     requires { length at.now.steps.items ≤ 4 }
-    ensures { Reads (entry names at.now.steps.items (view value.now) (may keys.DownlinkFields downlink))
+    ensures { Reads (entry names at.now (view value.now) (may keys.DownlinkFields downlink))
         (option_map downlink_value (value_at names keys.DownlinkFields (view value.now))) result }
 {
-    match value_at(value, Key::DownlinkFields) {
+    match value_at::<Place>(value, Key::DownlinkFields) {
         None => Ok(None),
         Some(found) => Ok(Some(downlink_of(&at.key(Key::DownlinkFields), found)?)),
     }

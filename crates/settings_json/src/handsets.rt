@@ -2,20 +2,18 @@
 ghost use Rattle.std.specs.Prelude.{◌≡◌, ◌≤◌, None, Some, length, map};
 ghost use Rattle.rrc_settings.specs.declared.words.Key.TheVariants as keys;
 ghost use Rattle.serde_json.specs.View.{view};
-ghost use Rattle.settings_json.specs.Kinds.{elements_in, entry, judge_each, judge_list, must};
-ghost use Rattle.settings_json.specs.Names.{names};
-ghost use Rattle.settings_json.specs.Reads.{Reads, ReadsList};
+ghost use Rattle.json_form.specs.Kinds.{elements_in, entry, judge_each, judge_list, must};
+ghost use Rattle.rrc_settings.specs.Naming.{names};
+ghost use Rattle.json_form.specs.Reads.{Reads, ReadsList};
 ghost use Rattle.settings_json.specs.Shapes.{coreset, handset, search_set};
 ghost use Rattle.settings_json.specs.Values.{coreset_value, handset_value, set_value};
 
 use crate::coresets::{bwp_at, coreset_of};
 use crate::fields::{optional_downlink_at, optional_uplink_at};
-use crate::leaves::{number_at, required};
-use crate::lists::list_of;
-use crate::objects::is_object_of;
 use crate::sets::set_of;
-use crate::texts::{codebook_at, name_at};
+use crate::words::codebook_at;
 use arrayvec::ArrayVec;
+use json_form::{is_object_of, list_of, name_at, number_at, required};
 use rrc_settings::{Coreset, Handset, Key, Place, SearchSet, SettingsFault};
 use serde_json::Value;
 
@@ -33,11 +31,11 @@ const KEYS: [Key; 9] = [
 ];
 
 /// The CORESETs of a list at this place.
-#[tactic(auto, using(crate::proofs::Elements::first_from_view_next, crate::proofs::Elements::take_view_next))]
+#[tactic(auto, using(json_form::proofs::Elements::first_from_view_next, json_form::proofs::Elements::take_view_next))]
 fn coresets_in(at: &Place, values: &[Value]) -> Result<ArrayVec<Coreset, 3>, SettingsFault>
     requires room { length at.now.steps.items ≤ 3 }
     requires few { length values.now ≤ 3 }
-    ensures { ReadsList (judge_each names coreset at.now.steps.items (map view values.now)) (map coreset_value (map view values.now)) result }
+    ensures { ReadsList (judge_each names coreset at.now (map view values.now)) (map coreset_value (map view values.now)) result }
 {
     let mut coresets = ArrayVec::new();
     for (index, value) in values.iter().enumerate() {
@@ -47,10 +45,10 @@ fn coresets_in(at: &Place, values: &[Value]) -> Result<ArrayVec<Coreset, 3>, Set
 }
 
 /// The CORESETs of a handset, at their key.
-#[tactic(auto, unfolding(rrc_settings::specs::Faults::unless, crate::specs::Kinds::entry, crate::specs::Kinds::judge_list))]
+#[tactic(auto, unfolding(rrc_settings::specs::Faults::unless, json_form::specs::Kinds::entry, json_form::specs::Kinds::judge_list))]
 fn coresets_at(at: &Place, value: &Value) -> Result<ArrayVec<Coreset, 3>, SettingsFault>
     requires { length at.now.steps.items ≤ 2 }
-    ensures { ReadsList (entry names at.now.steps.items (view value.now) (must keys.Coresets (judge_list names 1 3 coreset)))
+    ensures { ReadsList (entry names at.now (view value.now) (must keys.Coresets (judge_list names 1 3 coreset)))
         (map coreset_value (elements_in names keys.Coresets (view value.now))) result }
 {
     let found = required(at, value, Key::Coresets)?;
@@ -59,11 +57,11 @@ fn coresets_at(at: &Place, value: &Value) -> Result<ArrayVec<Coreset, 3>, Settin
 }
 
 /// The sets of a list at this place.
-#[tactic(auto, using(crate::proofs::Elements::first_from_view_next, crate::proofs::Elements::take_view_next))]
+#[tactic(auto, using(json_form::proofs::Elements::first_from_view_next, json_form::proofs::Elements::take_view_next))]
 fn sets_in(at: &Place, values: &[Value]) -> Result<ArrayVec<SearchSet, 10>, SettingsFault>
     requires room { length at.now.steps.items ≤ 3 }
     requires few { length values.now ≤ 10 }
-    ensures { ReadsList (judge_each names search_set at.now.steps.items (map view values.now)) (map set_value (map view values.now)) result }
+    ensures { ReadsList (judge_each names search_set at.now (map view values.now)) (map set_value (map view values.now)) result }
 {
     let mut sets = ArrayVec::new();
     for (index, value) in values.iter().enumerate() {
@@ -73,10 +71,10 @@ fn sets_in(at: &Place, values: &[Value]) -> Result<ArrayVec<SearchSet, 10>, Sett
 }
 
 /// The sets of a handset, at their key.
-#[tactic(auto, unfolding(rrc_settings::specs::Faults::unless, crate::specs::Kinds::entry, crate::specs::Kinds::judge_list))]
+#[tactic(auto, unfolding(rrc_settings::specs::Faults::unless, json_form::specs::Kinds::entry, json_form::specs::Kinds::judge_list))]
 fn sets_at(at: &Place, value: &Value) -> Result<ArrayVec<SearchSet, 10>, SettingsFault>
     requires { length at.now.steps.items ≤ 2 }
-    ensures { ReadsList (entry names at.now.steps.items (view value.now) (must keys.Sets (judge_list names 1 10 search_set)))
+    ensures { ReadsList (entry names at.now (view value.now) (must keys.Sets (judge_list names 1 10 search_set)))
         (map set_value (elements_in names keys.Sets (view value.now))) result }
 {
     let found = required(at, value, Key::Sets)?;
@@ -88,11 +86,11 @@ fn sets_at(at: &Place, value: &Value) -> Result<ArrayVec<SearchSet, 10>, Setting
 #[tactic(auto, unfolding(crate::specs::Shapes::handset, crate::specs::Values::handset_value))]
 pub(crate) fn handset_of(at: &Place, value: &Value) -> Result<Handset, SettingsFault>
     requires { length at.now.steps.items ≤ 2 }
-    ensures { Reads (handset at.now.steps.items (view value.now)) (handset_value (view value.now)) result }
+    ensures { Reads (handset at.now (view value.now)) (handset_value (view value.now)) result }
 {
     is_object_of(at, &KEYS, value)?;
     Ok(Handset {
-        name: name_at(at, value)?,
+        name: name_at(at, value, Key::Name)?,
         rnti: number_at(at, value, Key::Rnti)?,
         downlink: bwp_at(at, value, Key::Downlink)?,
         uplink: bwp_at(at, value, Key::Uplink)?,

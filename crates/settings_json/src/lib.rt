@@ -3,15 +3,10 @@
 
 mod cells;
 mod coresets;
-mod error;
 mod fields;
 mod handsets;
 pub mod laws;
-mod leaves;
-mod lists;
-mod objects;
 mod sets;
-mod texts;
+mod words;
 
-pub use cells::read_settings;
-pub use error::SettingsError;
+pub use cells::{SettingsError, read_settings};

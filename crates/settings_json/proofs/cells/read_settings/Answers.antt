@@ -4,8 +4,8 @@ use Rattle.rrc_settings.specs.Faults.{fault_at}
 use Rattle.serde_json.specs.View.{view}
 use Rattle.settings_json.specs.First.{first_fault_of}
 use Rattle.settings_json.specs.Values.{raw_value}
-use Rattle.settings_json.proofs.NoJson.{never_given}
-use Rattle.settings_json.proofs.Readings.{found_of_json, spelled_of_json}
+use Rattle.settings_json.proofs.NoJson.{never}
+use Rattle.json_form.proofs.Readings.{found_of_json, spelled_of_json, never_given}
 use Rattle.settings_json.proofs.cells.read_settings.Goals as goal
 
 pub returns-clause-first : goal.returns-clause-first
@@ -16,4 +16,6 @@ returns-clause-first c =
     rw (found_of_json (fault_at [] NotJson) first_fault_of bytes d json, spelled_of_json raw_value bytes d json) c.cell_of.ensures
 
 pub returns-clause-not_json : goal.returns-clause-not_json
-returns-clause-not_json c = λ at e. absurd (never_given (view c.in_ok-value.value) _ c.cell_of.result at c.cell_of.ensures e)
+returns-clause-not_json c = λ at e.
+    let d = view c.in_ok-value.value in
+    absurd (never_given (first_fault_of d) _ (fault_at at NotJson) c.cell_of.result (never at d) c.cell_of.ensures e)

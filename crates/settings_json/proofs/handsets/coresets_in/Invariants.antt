@@ -1,8 +1,7 @@
 use Rattle.std.proofs.Common.{◌≡◌, map, take, drop}
-use Rattle.rrc_settings.specs.Faults.{element}
 use Rattle.serde_json.specs.View.{view}
-use Rattle.settings_json.specs.Kinds.{judge_each, first_from}
-use Rattle.settings_json.specs.Names.{names}
+use Rattle.json_form.specs.Kinds.{judge_each, first_from}
+use Rattle.rrc_settings.specs.Naming.{names}
 use Rattle.settings_json.specs.Shapes.{coreset}
 use Rattle.settings_json.specs.Values.{coreset_value}
 use Rattle.settings_json.proofs.handsets.coresets_in.Given as goal
@@ -10,7 +9,7 @@ use Rattle.settings_json.proofs.handsets.coresets_in.Given as goal
 -- what the whole list finds is found by the elements which are left, and the earlier ones are read
 abbrev pub invariant-loop-index : goal.invariant-loop-index
 invariant-loop-index l = record {
-  rest : judge_each names coreset l.at.steps.items (map view l.values)
-      ≡ first_from (λ n. coreset (element l.at.steps.items n)) l.index (drop l.index (map view l.values));
+  rest : judge_each names coreset l.at (map view l.values)
+      ≡ first_from (λ n. coreset (names.element l.at n)) l.index (drop l.index (map view l.values));
   done : l.coresets.items ≡ take l.index (map coreset_value (map view l.values));
 }

@@ -1,0 +1,5 @@
+pub mod Elements
+pub mod NoFault
+pub mod OtherKinds
+pub mod OtherReasons
+pub mod Readings

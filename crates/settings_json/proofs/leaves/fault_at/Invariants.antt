@@ -1,6 +1,0 @@
-use Rattle.std.proofs.Common.{◌≡◌, take}
-use Rattle.settings_json.proofs.leaves.fault_at.Given as goal
-
--- the steps so far
-abbrev pub invariant-loop-step : goal.invariant-loop-step
-invariant-loop-step l = l.steps.items ≡ take l.step-index l.at.steps.items
