@@ -1,5 +1,6 @@
 -- The least number of bits that tell so many things apart.
-use Rattle.std.proofs.Common.{◌≡◌, ℕ, zero, suc, ◌+◌, ◌^◌, ◌<◌, ◌≤◌, Bool, inl, inr, cond, nat_le, Some, unwrap_or, ap, sym, subst, arith, below_more}
+use Rattle.std.proofs.Common.{◌≡◌, ℕ, zero, suc, ◌+◌, ◌^◌, ◌<◌, ◌≤◌, Bool, inl, inr, cond, nat_le, Some, unwrap_or, ap}
+use Rattle.std.proofs.Common.{sym, subst, arith, below_more}
 use Rattle.std.specs.List.{range_with_len, find}
 use Rattle.std.proofs.Math.Nat.{pow-le-pow_right}
 use Rattle.std.proofs.lemmas.Bool.{leb-true, leb-false, cases_Bool, cases_order}
@@ -27,14 +28,17 @@ tells n bits = nat_le n (2 ^ bits)
 abbrev first_of_range : ℕ → ℕ → ℕ → ℕ
 first_of_range n first count = unwrap_or (find (tells n) (range_with_len first count)) 0
 
-first_is_least : (n first count : ℕ) → n ≤ 2 ^ (first + count) → ((k : ℕ) → k < first → 2 ^ k < n) → IsLeast n (first_of_range n first (suc count))
+first_is_least : (n first count : ℕ) → n ≤ 2 ^ (first + count) → ((k : ℕ) → k < first → 2 ^ k < n)
+    → IsLeast n (first_of_range n first (suc count))
 first_is_least n first zero h below =
     let here : first + 0 ≡ first = omega arith in
     let P : ℕ → Type 0 = λ m. n ≤ 2 ^ m in
     let enough : n ≤ 2 ^ first = subst P here h in
     let R : ℕ → Type 0 = λ b. IsLeast n b in
     elim (cases_Bool (tells n first)) [
-      | inl does ↦ subst R (sym (ap (λ (b : Bool). unwrap_or (cond b (Some first) (find (tells n) (range_with_len (first + 1) 0))) 0) does)) (record { enough = enough; least = below })
+      | inl does ↦
+          subst R (sym (ap (λ (b : Bool). unwrap_or (cond b (Some first) (find (tells n) (range_with_len (first + 1) 0))) 0)
+          does)) (record { enough = enough; least = below })
       | inr fails ↦ absurd (omega (arith, leb-false n (2 ^ first) fails, enough))
     ]
 first_is_least n first (suc count) h below =
@@ -42,10 +46,14 @@ first_is_least n first (suc count) h below =
     let P : ℕ → Type 0 = λ m. n ≤ 2 ^ m in
     let move : first + suc count ≡ first + 1 + count = omega arith in
     elim (cases_Bool (tells n first)) [
-      | inl does ↦ subst R (sym (ap (λ (b : Bool). unwrap_or (cond b (Some first) (find (tells n) (range_with_len (first + 1) (suc count)))) 0) does)) (record { enough = leb-true n (2 ^ first) does; least = below })
+      | inl does ↦
+          subst R (sym (ap (λ (b : Bool). unwrap_or
+          (cond b (Some first) (find (tells n) (range_with_len (first + 1) (suc count)))) 0) does))
+          (record { enough = leb-true n (2 ^ first) does; least = below })
       | inr fails ↦
           let Q : ℕ → Type 0 = λ k. 2 ^ k < n in
-          subst R (sym (ap (λ (b : Bool). unwrap_or (cond b (Some first) (find (tells n) (range_with_len (first + 1) (suc count)))) 0) fails))
+          subst R (sym (ap (λ (b : Bool). unwrap_or
+          (cond b (Some first) (find (tells n) (range_with_len (first + 1) (suc count)))) 0) fails))
           (first_is_least n (first + 1) count (subst P move h) (below_more Q first below (leb-false n (2 ^ first) fails)))
     ]
 
@@ -55,12 +63,12 @@ unfolding bits_for
 bits_for-least n h = first_is_least n 0 32 h (λ k l. absurd (omega arith))
 
 -- the least number is what `bits_for` gives
-pub bits_for-is : (n b : ℕ) → n ≤ 2 ^ 32 → IsLeast n b → b ≡ bits_for n
-bits_for-is n b h least = least_once n b (bits_for n) least (bits_for-least n h)
+pub bits_for_is : (n b : ℕ) → n ≤ 2 ^ 32 → IsLeast n b → b ≡ bits_for n
+bits_for_is n b h least = least_once n b (bits_for n) least (bits_for-least n h)
 
 -- b bits that tell n things apart are at least as many
-pub bits_for-le : (n b : ℕ) → n ≤ 2 ^ 32 → n ≤ 2 ^ b → bits_for n ≤ b
-bits_for-le n b h enough =
+pub bits_for_le : (n b : ℕ) → n ≤ 2 ^ 32 → n ≤ 2 ^ b → bits_for n ≤ b
+bits_for_le n b h enough =
     elim (cases_order b (bits_for n)) [
       | inl e ↦ omega arith
       | inr (inl less) ↦ absurd (omega (arith, enough, (bits_for-least n h).least b less))
@@ -68,8 +76,8 @@ bits_for-le n b h enough =
     ]
 
 -- more than one thing takes a bit
-pub bits_for-more : (n b : ℕ) → n ≤ 2 ^ 32 → 2 ^ b < n → b < bits_for n
-bits_for-more n b h more =
+pub bits_for_more : (n b : ℕ) → n ≤ 2 ^ 32 → 2 ^ b < n → b < bits_for n
+bits_for_more n b h more =
     elim (cases_order b (bits_for n)) [
       | inl e ↦ let P : ℕ → Type 0 = λ m. n ≤ 2 ^ m in absurd (omega (arith, more, subst P (sym e) (bits_for-least n h).enough))
       | inr (inl less) ↦ less

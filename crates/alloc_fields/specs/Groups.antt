@@ -13,5 +13,5 @@ abbrev pub quotient_up : ℕ → ℕ → ℕ
 quotient_up a b = (a + (b - 1)) / b
 
 -- how many groups there are: the first one begins at a multiple of the group size, before the bandwidth part where that is none
-unfoldable pub group_count : ℕ → ℕ → ℕ → ℕ
-group_count size start config = quotient_up (size + start % group_size size config) (group_size size config)
+unfoldable pub rbg_count : ℕ → ℕ → ℕ → ℕ
+rbg_count size start config = quotient_up (size + start % group_size size config) (group_size size config)

@@ -1,6 +1,6 @@
 //! Groups of blocks, which are granted together.
 ghost use Rattle.std.specs.Prelude.{◌≡◌, ◌≤◌, ◌⊎◌};
-ghost use Rattle.alloc_fields.specs.Groups.{group_size, group_count};
+ghost use Rattle.alloc_fields.specs.Groups.{group_size, rbg_count};
 
 /// How many groups of blocks a bandwidth part has that begins at block `start` (3GPP TS 38.214, 5.1.2.2.1).
 pub fn group_count(size: u16, start: u16, config: u16) -> u16
@@ -8,7 +8,7 @@ pub fn group_count(size: u16, start: u16, config: u16) -> u16
     requires most { size ≤ 275 }
     requires start { start ≤ 275 }
     requires config { (config ≡ 1) ⊎ (config ≡ 2) }
-    ensures value { result ≡ group_count size start config }
+    ensures value { result ≡ rbg_count size start config }
     ensures least { 1 ≤ result }
     ensures most { result ≤ 19 }
 {

@@ -4,10 +4,7 @@ pub mod CandidateRegs
 pub mod Cces
 pub mod Interleaving
 pub mod LegalResources
-pub mod LegalSets
-pub mod Members
 pub mod Numbered
 pub mod Parts
-pub mod Rising
 pub mod SortedRegs
 pub mod Spots

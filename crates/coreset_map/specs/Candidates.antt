@@ -3,7 +3,7 @@ use Rattle.std.specs.Prelude.{ℕ, List, map}
 use Rattle.std.specs.List.{range_with_len, flat_map, filter, list_any}
 use Rattle.coreset_map.specs.declared.places.Reg.{Reg}
 use Rattle.coreset_map.specs.ControlResources.{Resources, blocks_of, cce_regs}
-use Rattle.coreset_map.specs.RegOrder.{is_reg}
+use Rattle.coreset_map.specs.RegOrder.{are_one_reg}
 
 -- the REGs of `level` CCEs from CCE `start` on, CCE by CCE
 unfoldable pub cces_regs : Resources → ℕ → ℕ → List Reg
@@ -16,7 +16,7 @@ all_regs resources =
 
 -- those of a list of REGs that are among others
 unfoldable pub those_among : List Reg → List Reg → List Reg
-those_among others = filter (λ reg. list_any (is_reg reg) others)
+those_among others = filter (λ reg. list_any (are_one_reg reg) others)
 
 -- the REGs of the candidate of `level` CCEs from CCE `start` on, by symbol, and in a symbol by block
 unfoldable pub candidate_regs : Resources → ℕ → ℕ → List Reg

@@ -1,7 +1,8 @@
 -- Control resource sets (3GPP TS 38.211, 7.3.2.2): the resource-element groups (REGs) of each control-channel element (CCE).
-use Rattle.std.specs.Prelude.{◌≡◌, ℕ, ◌+◌, ◌*◌, ◌/◌, ◌%◌, ◌<◌, ◌≤◌, ⊤, true, List, [], ◌∷◌, Option, Some, None, map, length, slice_index, All, AllPairs}
+use Rattle.std.specs.Prelude.{◌≡◌, ℕ, ◌+◌, ◌*◌, ◌/◌, ◌%◌, ◌<◌, ◌≤◌, ⊤, true, List, [], ◌∷◌, Option, Some, None, map}
+use Rattle.std.specs.Prelude.{length, slice_index, All, AllPairs}
 use Rattle.std.specs.List.{range_with_len, flat_map}
-use Rattle.rrc_settings.specs.Table.{is_one_of}
+use Rattle.rrc_settings.specs.Numbers.{is_one_of}
 use Rattle.rrc_settings.specs.ControlGroups.{group_block, cces_in}
 use Rattle.coreset_map.specs.declared.interleaver.Interleaver.{Interleaver}
 use Rattle.coreset_map.specs.declared.places.Reg.{Reg}
@@ -66,7 +67,7 @@ abbrev pub GoesWith : ℕ → Option Interleaver → Type 0
 GoesWith count None = ⊤
 GoesWith count (Some interleaver) = IsInterleaver count interleaver
 
--- each group is below a block
+-- each group of six blocks ends at or before a block
 abbrev pub AreBelow : ℕ → Resources → Type 0
 AreBelow blocks resources = All (λ group. group_block resources.start group + 6 ≤ blocks) resources.groups
 

@@ -12,6 +12,8 @@ abbrev pub CcesAreApart : Type 0
 CcesAreApart =
     (cell : RawCell) (handset coreset : ℕ) → IsLegal cell → handset < length cell.handsets
     → coreset < length (handset_at cell handset).coresets.items
-    → (j k : ℕ) (reg : Reg) → j < cce_count (resources_of cell handset coreset) → k < cce_count (resources_of cell handset coreset)
-    → Contains (cce_regs (resources_of cell handset coreset) j) reg → Contains (cce_regs (resources_of cell handset coreset) k) reg
+    → (j k : ℕ) (reg : Reg) → j < cce_count (resources_of cell handset coreset)
+    → k < cce_count (resources_of cell handset coreset)
+    → Contains (cce_regs (resources_of cell handset coreset) j) reg
+    → Contains (cce_regs (resources_of cell handset coreset) k) reg
     → j ≡ k

@@ -1,4 +1,6 @@
--- The REGs of CCEs one after the other: each CCE has six places, and each place has one REG (3GPP TS 38.211, 7.3.2.2).
+-- Words of the code: the REGs of CCEs one after the other, where each CCE has six places and each place one REG.
+-- `cce_regs` is the
+-- standard's word (3GPP TS 38.211, 7.3.2.2).
 use Rattle.std.specs.Prelude.{ℕ, ◌+◌, ◌*◌, ◌/◌, ◌%◌}
 use Rattle.coreset_map.specs.declared.places.Reg.{Reg}
 use Rattle.coreset_map.specs.ControlResources.{Resources, bundle_size, interleaved, reg_of}

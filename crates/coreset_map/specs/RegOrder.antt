@@ -6,9 +6,9 @@ use Rattle.coreset_map.specs.declared.places.Reg.{Reg}
 abbrev pub reg_at : List Reg → ℕ → Reg
 reg_at regs j = slice_index_or regs j (record { symbol = 0; block = 0 })
 
--- whether two REGs are the same
-abbrev pub is_reg : Reg → Reg → Bool
-is_reg a b = (a.symbol == b.symbol) && (a.block == b.block)
+-- whether two REGs are one
+abbrev pub are_one_reg : Reg → Reg → Bool
+are_one_reg a b = (a.symbol == b.symbol) && (a.block == b.block)
 
 -- a REG stands before another: in an earlier symbol, or in the same one in a lower block
 abbrev pub Precedes : Reg → Reg → Type 0
@@ -18,11 +18,11 @@ Precedes a b = (a.symbol ≤ b.symbol) × (a.symbol ≡ b.symbol → a.block < b
 abbrev pub AreRegs : List Reg → Type 0
 AreRegs regs = (i j : ℕ) → i < j → j < length regs → Precedes (reg_at regs i) (reg_at regs j)
 
--- each REG of a list is in an early symbol and a low block
+-- each REG of a list is in one of the first symbols, and in a block below a number of blocks
 abbrev pub AreWithin : ℕ → ℕ → List Reg → Type 0
 AreWithin symbols blocks regs =
     (j : ℕ) → j < length regs → ((reg_at regs j).symbol < symbols) × ((reg_at regs j).block < blocks)
 
--- each REG of a list is in a low block
+-- each REG of a list is in a block below a number of blocks
 abbrev pub AreBlocksBelow : ℕ → List Reg → Type 0
 AreBlocksBelow blocks regs = (j : ℕ) → j < length regs → (reg_at regs j).block < blocks

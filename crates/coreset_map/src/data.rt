@@ -13,7 +13,8 @@ pub fn data_place(regs: &ArrayVec<Reg, 96>, at: usize) -> Spot
     requires regs { AreRegs regs.now.items }
     requires blocks { AreBlocksBelow 275 regs.now.items }
     requires at { at < 9 * length regs.now.items }
-    ensures { (symbols blocks : ℕ) → AreWithin symbols blocks regs.now.items → slice_get (data_places symbols blocks regs.now.items) at ≡ Some result }
+    ensures { (symbols blocks : ℕ) → AreWithin symbols blocks regs.now.items
+        → slice_get (data_places symbols blocks regs.now.items) at ≡ Some result }
 {
     let reg = regs[at / 9];
     let rank = (at % 9) as u16;

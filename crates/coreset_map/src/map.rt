@@ -5,7 +5,8 @@ ghost use Rattle.coreset_map.specs.ControlResources.{blocks_of, cce_count, cce_r
 ghost use Rattle.coreset_map.specs.Numbers.{number_at, placed_reg};
 ghost use Rattle.coreset_map.specs.RegOrder.{AreRegs, AreWithin};
 ghost use Rattle.rrc_settings.specs.HandsetsOfCell.{handset_at};
-ghost use Rattle.coreset_map.specs.ResourcesOfCell.{groups_of, interleaver_in, resources_in, resources_of};
+ghost use Rattle.coreset_map.specs.ResourcesOfCell.{interleaver_in, resources_in, resources_of};
+ghost use Rattle.rrc_settings.specs.ControlGroups.{groups_of};
 
 use crate::Reg;
 use crate::interleaver::{Interleaver, bundle_at, bundle_size};
@@ -43,7 +44,20 @@ impl Map {
     {
         let raw = cell.raw();
         let handset = &raw.handsets.as_slice()[handset];
-        map_of(raw.cell, handset.downlink.start, &handset.coresets[coreset])
+        Map::in_part(raw.cell, handset.downlink.start, &handset.coresets[coreset])
+    }
+
+    /// The set of a CORESET, in the cell of a number and a bandwidth part from block `start` on.
+    pub fn in_part(cell: u16, start: u16, coreset: &Coreset) -> Map
+        requires { AreResources (resources_in cell start coreset.now) }
+        ensures { result ≡ resources_in cell start coreset.now }
+    {
+        Map {
+            start,
+            groups: groups_of(coreset.groups),
+            duration: coreset.duration,
+            interleaver: interleaver_of(cell, coreset.interleave),
+        }
     }
 
     /// How many CCEs the set has.
@@ -124,19 +138,6 @@ impl Map {
         let count = 6 * self.cce_count();
         let size = bundle_size(self.interleaver);
         bundle_at(self.interleaver, place / size, count) * size + place % size
-    }
-}
-
-/// The set of a CORESET, in the cell of a number and a bandwidth part from block `start` on.
-fn map_of(cell: u16, start: u16, coreset: &Coreset) -> Map
-    requires { AreResources (resources_in cell start coreset.now) }
-    ensures { result ≡ resources_in cell start coreset.now }
-{
-    Map {
-        start,
-        groups: groups_of(coreset.groups),
-        duration: coreset.duration,
-        interleaver: interleaver_of(cell, coreset.interleave),
     }
 }
 

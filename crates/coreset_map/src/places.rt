@@ -2,7 +2,8 @@
 
 /// One resource-element group: a block of 12 subcarriers in one symbol (3GPP TS 38.211, 7.3.2.2).
 ///
-/// The symbol is counted from the first of the control resource set, the block from common block 0. REGs are ordered by symbol, then block.
+/// The symbol is counted from the first of the control resource set, the block from common block 0. REGs are ordered
+/// by symbol, then block.
 #[derive(Clone, Copy, Debug, Default, PartialEq, Eq, PartialOrd, Ord)]
 pub struct Reg {
     /// The symbol.

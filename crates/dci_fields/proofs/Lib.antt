@@ -1,6 +1,6 @@
 pub mod NamesOfWords
 pub mod AssignmentWidths
-pub mod LegalSettings
+pub mod BlockCounts
 pub mod RowLists
 pub mod PayloadsOfRows
 pub mod PayloadCarriers
@@ -10,3 +10,6 @@ mod RowPacking
 pub mod PackingOutcomes
 pub mod FirstFieldFaults
 pub mod FormatsApart
+pub mod SpanWidths
+pub mod FormatWidths
+pub mod FormatLists

@@ -1,207 +1,103 @@
--- Names and their words: each word is of one name, and each name but the identifier stands in the table of names.
-use Rattle.std.proofs.Common.{◌≡◌, ◌≢◌, ℕ, ◌-◌, ◌<◌, ◌≤◌, ◌↔◌, Some, None, Bool, true, false, nat_lt, bytes_eq, unwrap_or, List, length, get_or, refl, ap, sym, ◌∙◌, arith}
+-- What a word names: the one whose word it is.
+use Rattle.std.proofs.Common.{◌≡◌, ◌≢◌, ◌↔◌, ℕ, suc, Option, Some, None, Bool, true, false, bytes_eq, ◌&&◌, cond, List, [], ◌∷◌}
+use Rattle.std.proofs.Common.{◌+◌, ◌<◌, ◌≤◌, length, get_or, drop, drop-cons, add-one, refl, ap, sym, ◌∙◌, subst}
 use Rattle.std.specs.List.{list_all, find}
-use Rattle.std.proofs.lemmas.List.Folds.{list_all_at}
+use Rattle.std.proofs.lemmas.List.{drop_all}
+use Rattle.std.proofs.lemmas.Slice.Eq.{bytes_eq-Decides}
+use Rattle.dci_fields.specs.declared.formats.Format.{Format}
+use Rattle.dci_fields.specs.declared.formats.Format.TheVariants as formats
+use Rattle.dci_fields.specs.declared.formats.TheConstants.{FORMATS}
 use Rattle.dci_fields.specs.declared.names.FieldName.{FieldName}
 use Rattle.dci_fields.specs.declared.names.FieldName.TheVariants as names
 use Rattle.dci_fields.specs.declared.names.TheConstants.{NAMES}
-use Rattle.dci_fields.specs.Words.{word_of, IsWordOf}
+use Rattle.dci_fields.specs.Formats.{format_word, format_named}
+use Rattle.dci_fields.specs.Words.{word_of, field_named, IsWordOf}
 
--- the place of a name among all names
-abbrev number_of_name : FieldName → ℕ
-number_of_name names.Identifier = 0
-number_of_name names.Fdra = 1
-number_of_name names.Tdra = 2
-number_of_name names.Hopping = 3
-number_of_name names.Vrb = 4
-number_of_name names.Mcs = 5
-number_of_name names.Ndi = 6
-number_of_name names.Rv = 7
-number_of_name names.Harq = 8
-number_of_name names.Dai = 9
-number_of_name names.Tpc = 10
-number_of_name names.Pucch = 11
-number_of_name names.Timing = 12
-number_of_name names.Preamble = 13
-number_of_name names.Supplementary = 14
-number_of_name names.Ssb = 15
-number_of_name names.Mask = 16
-number_of_name names.Reserved = 17
-number_of_name names.Bwp = 18
-number_of_name names.Bundling = 19
-number_of_name names.RateMatch = 20
-number_of_name names.ZpCsiRs = 21
-number_of_name names.Mcs2 = 22
-number_of_name names.Ndi2 = 23
-number_of_name names.Rv2 = 24
-number_of_name names.Dai2 = 25
-number_of_name names.Sri = 26
-number_of_name names.Precoding = 27
-number_of_name names.Ports = 28
-number_of_name names.Tci = 29
-number_of_name names.Srs = 30
-number_of_name names.Csi = 31
-number_of_name names.Cbgti = 32
-number_of_name names.Flush = 33
-number_of_name names.Ptrs = 34
-number_of_name names.Beta = 35
-number_of_name names.Dmrs = 36
-number_of_name names.Ulsch = 37
+-- an element that passes is the first that does from its place on
+pub found_here : {X : Type 0} (p : X → Bool) (xs : List X) (k : ℕ) (d : X) → k < length xs → p (get_or xs k d) ≡ true
+    → find p (drop k xs) ≡ Some (get_or xs k d)
+found_here p xs k d h e =
+    ap (find p) (drop-cons xs k d h) ∙ ap (λ (b : Bool). cond b (Some (get_or xs k d)) (find p (drop (suc k) xs))) e
 
--- the name with a word, the identifier where there is none
-abbrev named : List ℕ → FieldName
-named word = unwrap_or (find (λ (name : FieldName). bytes_eq (word_of name) word) NAMES) names.Identifier
+-- after an element that does not pass, the search goes on
+pub found_after : {X : Type 0} (p : X → Bool) (xs : List X) (k : ℕ) (d : X) → k < length xs → p (get_or xs k d) ≡ false
+    → find p (drop k xs) ≡ find p (drop (k + 1) xs)
+found_after p xs k d h e =
+    ap (find p) (drop-cons xs k d h)
+    ∙ ap (λ (b : Bool). cond b (Some (get_or xs k d)) (find p (drop (suc k) xs))) e
+    ∙ ap (λ (n : ℕ). find p (drop n xs)) (sym (add-one k))
 
-named-word_of : (name : FieldName) → named (word_of name) ≡ name
-named-word_of names.Identifier = refl
-named-word_of names.Fdra = refl
-named-word_of names.Tdra = refl
-named-word_of names.Hopping = refl
-named-word_of names.Vrb = refl
-named-word_of names.Mcs = refl
-named-word_of names.Ndi = refl
-named-word_of names.Rv = refl
-named-word_of names.Harq = refl
-named-word_of names.Dai = refl
-named-word_of names.Tpc = refl
-named-word_of names.Pucch = refl
-named-word_of names.Timing = refl
-named-word_of names.Preamble = refl
-named-word_of names.Supplementary = refl
-named-word_of names.Ssb = refl
-named-word_of names.Mask = refl
-named-word_of names.Reserved = refl
-named-word_of names.Bwp = refl
-named-word_of names.Bundling = refl
-named-word_of names.RateMatch = refl
-named-word_of names.ZpCsiRs = refl
-named-word_of names.Mcs2 = refl
-named-word_of names.Ndi2 = refl
-named-word_of names.Rv2 = refl
-named-word_of names.Dai2 = refl
-named-word_of names.Sri = refl
-named-word_of names.Precoding = refl
-named-word_of names.Ports = refl
-named-word_of names.Tci = refl
-named-word_of names.Srs = refl
-named-word_of names.Csi = refl
-named-word_of names.Cbgti = refl
-named-word_of names.Flush = refl
-named-word_of names.Ptrs = refl
-named-word_of names.Beta = refl
-named-word_of names.Dmrs = refl
-named-word_of names.Ulsch = refl
+-- past the end nothing is found
+pub found_no_more : {X : Type 0} (p : X → Bool) (xs : List X) (k : ℕ) → length xs ≤ k → find p (drop k xs) ≡ None
+found_no_more p xs k h = ap (find p) (drop_all k xs h)
 
--- a word is of one name at most
-pub word_once : (a b : FieldName) → word_of a ≡ word_of b → a ≡ b
-word_once a b e = sym (named-word_of a) ∙ ap named e ∙ named-word_of b
+-- what is the first, or found later, so passes
+found_first : {X : Type 0} (p q : X → Bool) (x y : X) (b c d : Bool) (found : Option X) → p x ≡ b → q x ≡ c → (c && d) ≡ true
+    → cond b (Some x) found ≡ Some y
+    → (d ≡ true → found ≡ Some y → (p y ≡ true) × (q y ≡ true)) → (p y ≡ true) × (q y ≡ true)
+found_first p q x y true true d found eb ec h e later = let same : x ≡ y = cc in (ap p (sym same) ∙ eb, ap q (sym same) ∙ ec)
+found_first p q x y false true d found eb ec h e later = later h e
+found_first p q x y b false d found eb ec h e later = cc
 
--- the place of a name in the table
-pub placed : (name d : FieldName) → name ≢ names.Identifier → get_or NAMES (number_of_name name - 1) d ≡ name
-placed names.Identifier d h = absurd (h refl)
-placed names.Fdra d h = refl
-placed names.Tdra d h = refl
-placed names.Hopping d h = refl
-placed names.Vrb d h = refl
-placed names.Mcs d h = refl
-placed names.Ndi d h = refl
-placed names.Rv d h = refl
-placed names.Harq d h = refl
-placed names.Dai d h = refl
-placed names.Tpc d h = refl
-placed names.Pucch d h = refl
-placed names.Timing d h = refl
-placed names.Preamble d h = refl
-placed names.Supplementary d h = refl
-placed names.Ssb d h = refl
-placed names.Mask d h = refl
-placed names.Reserved d h = refl
-placed names.Bwp d h = refl
-placed names.Bundling d h = refl
-placed names.RateMatch d h = refl
-placed names.ZpCsiRs d h = refl
-placed names.Mcs2 d h = refl
-placed names.Ndi2 d h = refl
-placed names.Rv2 d h = refl
-placed names.Dai2 d h = refl
-placed names.Sri d h = refl
-placed names.Precoding d h = refl
-placed names.Ports d h = refl
-placed names.Tci d h = refl
-placed names.Srs d h = refl
-placed names.Csi d h = refl
-placed names.Cbgti d h = refl
-placed names.Flush d h = refl
-placed names.Ptrs d h = refl
-placed names.Beta d h = refl
-placed names.Dmrs d h = refl
-placed names.Ulsch d h = refl
+-- what is found passes the test, and each test that all elements pass
+found_passes : {X : Type 0} (p q : X → Bool) (xs : List X) (y : X) → list_all q xs ≡ true → find p xs ≡ Some y
+    → (p y ≡ true) × (q y ≡ true)
+found_passes p q [] y h e = cc
+found_passes p q (x ∷ xs) y h e =
+    let later = found_passes p q xs y in
+    found_first p q x y (p x) (q x) (list_all q xs) (find p xs) refl refl h e later
 
-pub number_of_name-le : (name : FieldName) → name ≢ names.Identifier → number_of_name name - 1 < 37
-number_of_name-le names.Identifier h = absurd (h refl)
-number_of_name-le names.Fdra h = omega arith
-number_of_name-le names.Tdra h = omega arith
-number_of_name-le names.Hopping h = omega arith
-number_of_name-le names.Vrb h = omega arith
-number_of_name-le names.Mcs h = omega arith
-number_of_name-le names.Ndi h = omega arith
-number_of_name-le names.Rv h = omega arith
-number_of_name-le names.Harq h = omega arith
-number_of_name-le names.Dai h = omega arith
-number_of_name-le names.Tpc h = omega arith
-number_of_name-le names.Pucch h = omega arith
-number_of_name-le names.Timing h = omega arith
-number_of_name-le names.Preamble h = omega arith
-number_of_name-le names.Supplementary h = omega arith
-number_of_name-le names.Ssb h = omega arith
-number_of_name-le names.Mask h = omega arith
-number_of_name-le names.Reserved h = omega arith
-number_of_name-le names.Bwp h = omega arith
-number_of_name-le names.Bundling h = omega arith
-number_of_name-le names.RateMatch h = omega arith
-number_of_name-le names.ZpCsiRs h = omega arith
-number_of_name-le names.Mcs2 h = omega arith
-number_of_name-le names.Ndi2 h = omega arith
-number_of_name-le names.Rv2 h = omega arith
-number_of_name-le names.Dai2 h = omega arith
-number_of_name-le names.Sri h = omega arith
-number_of_name-le names.Precoding h = omega arith
-number_of_name-le names.Ports h = omega arith
-number_of_name-le names.Tci h = omega arith
-number_of_name-le names.Srs h = omega arith
-number_of_name-le names.Csi h = omega arith
-number_of_name-le names.Cbgti h = omega arith
-number_of_name-le names.Flush h = omega arith
-number_of_name-le names.Ptrs h = omega arith
-number_of_name-le names.Beta h = omega arith
-number_of_name-le names.Dmrs h = omega arith
-number_of_name-le names.Ulsch h = omega arith
+-- whether a name has a word: each but the identifier
+abbrev has_word : FieldName → Bool
+has_word names.Identifier = false
+has_word _ = true
 
-no_identifier : list_all (λ (name : FieldName). nat_lt 0 (number_of_name name)) NAMES ≡ true
-no_identifier = refl
+-- all names of the table have one
+all_have_words : list_all has_word NAMES ≡ true
+all_have_words = refl
 
-differ : (b : Bool) → b ≡ true → b ≡ false → ⊥
-differ b h k = cc
+-- a name with a word is no identifier
+no_identifier : (name : FieldName) → has_word name ≡ true → name ≢ names.Identifier
+no_identifier name h e = let f : has_word name ≡ false = ap has_word e in cc
 
--- the table has no identifier
-pub named_in_table : (k : ℕ) (d : FieldName) → k < length NAMES → get_or NAMES k d ≢ names.Identifier
-named_in_table k d h e =
-    differ (list_all (λ (name : FieldName). nat_lt 0 (number_of_name name)) NAMES) no_identifier
-    (list_all_at (λ (name : FieldName). nat_lt 0 (number_of_name name)) NAMES k d h (ap (λ (name : FieldName). nat_lt 0 (number_of_name name)) e))
+-- a name with a word is what its word names
+found_by_word : (name : FieldName) → name ≢ names.Identifier → field_named (word_of name) ≡ Some name
+unfolding field_named
+found_by_word names.Identifier h = absurd (h refl)
+found_by_word _ h = refl
 
--- the table's name at a place is the one with its word
-pub found_name : (word : List ℕ) (k : ℕ) → k < length NAMES → word_of (get_or NAMES k names.Identifier) ≡ word
-    → (name : FieldName) → (Some (get_or NAMES k names.Identifier) ≡ Some name) ↔ IsWordOf name word
-found_name word k h e name = (
-  (λ same. let is : get_or NAMES k names.Identifier ≡ name = cc in
-      ((λ other. named_in_table k names.Identifier h (is ∙ other)), ap word_of (sym is) ∙ e)),
-  (λ of. ap (λ (n : FieldName). Some n) (word_once (get_or NAMES k names.Identifier) name (e ∙ sym of.1))),
+-- the name that a word names is the one whose word it is
+pub field_named_exactly : (word : List ℕ) (name : FieldName) → (field_named word ≡ Some name) ↔ IsWordOf name word
+unfolding field_named
+field_named_exactly word name = (
+  (λ e. let t = found_passes (λ (n : FieldName). bytes_eq (word_of n) word) has_word NAMES name all_have_words e in
+      (no_identifier name t.1, (bytes_eq-Decides (word_of name) word).0 t.0)),
+  (λ w. subst (λ (bytes : List ℕ). field_named bytes ≡ Some name) w.1 (found_by_word name w.0)),
 )
 
--- no name but the identifier has a word that no name of the table has
-pub no_name : (word : List ℕ) (n : ℕ) → length NAMES ≤ n → ((k : ℕ) → k < n → word_of (get_or NAMES k names.Identifier) ≡ word → ⊥)
-    → (name : FieldName) → (None ≡ Some name) ↔ IsWordOf name word
-no_name word n h none name = (
-  (λ same. cc),
-  (λ of. absurd (none (number_of_name name - 1) (omega (arith, number_of_name-le name of.0)) (ap word_of (placed name names.Identifier of.0) ∙ of.1))),
+-- a format is what its word names
+found_format : (format : Format) → format_named (format_word format) ≡ Some format
+unfolding format_named
+found_format formats.F00 = refl
+found_format _ = refl
+
+-- the format that a word names is the one whose word it is
+pub format_named_exactly : (word : List ℕ) (format : Format) → (format_named word ≡ Some format) ↔ (format_word format ≡ word)
+unfolding format_named
+format_named_exactly word format = (
+  (λ e. let test : Format → Bool = λ f. bytes_eq (format_word f) word in
+      (bytes_eq-Decides (format_word format) word).0 (found_passes test (λ _. true) FORMATS format refl e).0),
+  (λ w. subst (λ (bytes : List ℕ). format_named bytes ≡ Some format) w (found_format format)),
 )
+
+-- the same of what is equal to it
+pub if_field_named : (word : List ℕ) (found : Option FieldName) → found ≡ field_named word
+    → (name : FieldName) → (found ≡ Some name) ↔ IsWordOf name word
+if_field_named word found e name =
+    subst (λ (x : Option FieldName). (x ≡ Some name) ↔ IsWordOf name word) (sym e) (field_named_exactly word name)
+
+-- the same of what is equal to it
+pub if_format_named : (word : List ℕ) (found : Option Format) → found ≡ format_named word
+    → (format : Format) → (found ≡ Some format) ↔ (format_word format ≡ word)
+if_format_named word found e format =
+    subst (λ (x : Option Format). (x ≡ Some format) ↔ (format_word format ≡ word)) (sym e) (format_named_exactly word format)

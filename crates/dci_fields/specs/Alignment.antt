@@ -1,12 +1,14 @@
 -- The sizes of the formats that a handset monitors (after 3GPP TS 38.212, 7.3.1.0). The steps, the fourth included, are
 -- this project's profile of that clause: only sizes that some set of the handset monitors count.
-use Rattle.std.specs.Prelude.{ℕ, ◌+◌, Bool, true, false, ◌&&◌, cond, nat_eq, nat_le, max, List, [], ◌∷◌, Option, Some, None, length}
-use Rattle.std.specs.List.{list_any}
+use Rattle.std.specs.Prelude.{ℕ, ◌+◌, Bool, true, false, ◌&&◌, cond, nat_eq, nat_le, max, List, [], ◌∷◌, Option, Some, None}
+use Rattle.std.specs.List.{list_any, filter_map}
+use Rattle.std.specs.Set.{distinct_count}
 use Rattle.rrc_settings.specs.declared.settings.RawCell.{RawCell}
 use Rattle.rrc_settings.specs.declared.settings.Handset.{Handset}
 use Rattle.rrc_settings.specs.declared.settings.SearchSet.{SearchSet}
 use Rattle.rrc_settings.specs.declared.settings.SetKind.{SetKind}
 use Rattle.rrc_settings.specs.declared.settings.SetKind.TheVariants as kinds
+use Rattle.rrc_settings.specs.contracts.settings.SetKindPartialEq.TheImpl as set_kind
 use Rattle.dci_fields.specs.declared.formats.Format.{Format}
 use Rattle.dci_fields.specs.declared.formats.Format.TheVariants.{F00, F10, F01, F11}
 use Rattle.dci_fields.specs.declared.formats.Widths.{Widths}
@@ -18,15 +20,7 @@ use Rattle.dci_fields.specs.FormatRows.{rows_of}
 
 -- two kinds of set are the same
 abbrev pub same_kind : SetKind → SetKind → Bool
-same_kind kinds.Common kinds.Common = true
-same_kind kinds.Common kinds.Fallback = false
-same_kind kinds.Common kinds.Specific = false
-same_kind kinds.Fallback kinds.Common = false
-same_kind kinds.Fallback kinds.Fallback = true
-same_kind kinds.Fallback kinds.Specific = false
-same_kind kinds.Specific kinds.Common = false
-same_kind kinds.Specific kinds.Fallback = false
-same_kind kinds.Specific kinds.Specific = true
+same_kind a b = set_kind.ghosts.eq a b
 
 -- whether a handset has a set of a kind
 abbrev pub has_set : Handset → SetKind → Bool
@@ -52,15 +46,9 @@ fallback_size cell handset = max (raw_size cell handset F00 Own) (raw_size cell 
 abbrev pub told_apart : Bool → ℕ → ℕ → ℕ
 told_apart monitored fallback size = cond (monitored && nat_eq size fallback) (size + 1) size
 
--- a list with a number, where it is new
-abbrev pub with_new : ℕ → List ℕ → List ℕ
-with_new size sizes = cond (list_any (nat_eq size) sizes) sizes (size ∷ sizes)
-
--- the different numbers among those that are there
-abbrev pub different : List (Option ℕ) → List ℕ
-different [] = []
-different (None ∷ rest) = different rest
-different (Some size ∷ rest) = with_new size (different rest)
+-- the sizes that are there
+abbrev pub sizes_there : List (Option ℕ) → List ℕ
+sizes_there sizes = filter_map (λ (size : Option ℕ). size) sizes
 
 -- the sizes after step 2
 abbrev pub sizes_apart : RawCell → Handset → Sizes
@@ -77,7 +65,8 @@ sizes_apart cell handset =
 
 -- step 3: at most three different sizes may be monitored
 abbrev pub are_few : Sizes → Bool
-are_few sizes = nat_le (length (different (sizes.common ∷ sizes.fallback ∷ sizes.up ∷ sizes.down ∷ []))) 3
+are_few sizes =
+    nat_le (distinct_count nat_eq (sizes_there (sizes.common ∷ sizes.fallback ∷ sizes.up ∷ sizes.down ∷ []))) 3
 
 -- step 4: the zeros of step 2 are taken off, and the formats of fallback take the common widths everywhere
 abbrev pub sizes_joined : RawCell → Handset → Sizes

@@ -26,7 +26,7 @@ fault_from rows format at (g ∷ gs) =
 
 -- a row is the frequency assignment, and the value that is asked for there is all ones
 abbrev pub is_all_ones_fdra : List Given → FieldRow → Bool
-is_all_ones_fdra given r = same_name r.name names.Fdra && is_all_ones r.width (last_value names.Fdra 0 given)
+is_all_ones_fdra given r = same_name r.name names.Fdra && is_all_ones r.width (last_value names.Fdra given)
 
 -- a frequency assignment of all ones is asked for in format 1_0, which would be an order
 abbrev pub asks_for_order : List FieldRow → Format → List Given → Bool

@@ -1,5 +1,5 @@
 -- Rows that are cut to a size, and the rows of a PDCCH order (3GPP TS 38.212, 7.3.1.0 and 7.3.1.2.1).
-use Rattle.std.specs.Prelude.{◌≡◌, ℕ, ◌-◌, cond, List, [], ◌∷◌, ◌++◌, map, take, find, unwrap_or, option_map}
+use Rattle.std.specs.Prelude.{◌≡◌, ℕ, ◌+◌, ◌-◌, ◌≤◌, cond, List, [], ◌∷◌, ◌++◌, map, take, find, unwrap_or, option_map}
 use Rattle.dci_fields.specs.declared.names.FieldName.TheVariants as names
 use Rattle.dci_fields.specs.declared.rows.FieldRow.{FieldRow}
 use Rattle.dci_fields.specs.SameNames.{same_name}
@@ -31,3 +31,10 @@ HasFdraSecond (first ∷ second ∷ rest) = second.name ≡ names.Fdra
 -- the first two rows, and what follows them in an order
 abbrev pub order_of : List FieldRow → List FieldRow
 order_of rows = take 2 rows ++ rows_after_order
+
+-- a list of fields begins with the identifier and the frequency assignment, which leave room for 27 bits: those of an order
+abbrev pub HasRoomForOrder : ℕ → List FieldRow → Type 0
+HasRoomForOrder size [] = ⊥
+HasRoomForOrder size (first ∷ []) = ⊥
+HasRoomForOrder size (first ∷ second ∷ rest) =
+    (first.name ≡ names.Identifier) × (second.name ≡ names.Fdra) × (first.width + second.width + 27 ≤ size)

@@ -1,5 +1,6 @@
 -- The fields of the formats in order, with their widths (3GPP TS 38.212, 7.3.1.1 and 7.3.1.2).
-use Rattle.std.specs.Prelude.{ℕ, ◌+◌, Bool, true, false, not, ◌&&◌, cond, nat_eq, List, [], ◌∷◌, Option, Some, None, is_some, slice_index}
+use Rattle.std.specs.Prelude.{ℕ, ◌+◌, Bool, true, false, not, ◌&&◌, cond, nat_eq, List, [], ◌∷◌, Option, Some, None}
+use Rattle.std.specs.Prelude.{is_some, slice_index}
 use Rattle.alloc_fields.specs.Widths.{bits_for}
 use Rattle.rrc_settings.specs.declared.settings.Allocation.{Allocation}
 use Rattle.rrc_settings.specs.declared.settings.Allocation.TheVariants as allocations

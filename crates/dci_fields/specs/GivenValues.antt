@@ -1,6 +1,7 @@
 -- Field values that are asked for: what each row has by them, and what may be wrong with them.
-use Rattle.std.specs.Prelude.{◌≡◌, ℕ, ◌-◌, ◌^◌, ◌<◌, ◌≤◌, Bool, false, cond, not, ◌&&◌, List, [], ◌∷◌, Option, Some, None, length, map, slice_get, option_map, find, IsTrue, Result, Ok, Err}
-use Rattle.std.specs.List.{Contains}
+use Rattle.std.specs.Prelude.{◌≡◌, ℕ, ◌-◌, ◌^◌, ◌<◌, ◌≤◌, Bool, false, cond, not, ◌&&◌, List, Option, Some, None}
+use Rattle.std.specs.Prelude.{length, map, slice_get, option_map, unwrap_or, find, IsTrue, Result, Ok, Err}
+use Rattle.std.specs.List.{Contains, filter, last_or}
 use Rattle.dci_fields.specs.declared.formats.Format.{Format}
 use Rattle.dci_fields.specs.declared.formats.Format.TheVariants.{F10}
 use Rattle.dci_fields.specs.declared.names.FieldName.{FieldName}
@@ -18,10 +19,17 @@ abbrev pub is_for : FieldName → Option FieldName → Bool
 is_for name None = false
 is_for name (Some other) = same_name other name
 
--- the value of the last entry with a name, else one that stood before
-abbrev pub last_value : FieldName → ℕ → List Given → ℕ
-last_value name before [] = before
-last_value name before (g ∷ gs) = last_value name (cond (is_for name g.name) g.value before) gs
+-- the entries with a name
+abbrev pub those_for : FieldName → List Given → List Given
+those_for name given = filter (λ (g : Given). is_for name g.name) given
+
+-- the values that are asked for by a name, in order
+abbrev pub values_for : FieldName → List Given → List ℕ
+values_for name given = map (λ (g : Given). g.value) (those_for name given)
+
+-- the value of the last entry with a name, 0 where there is none
+abbrev pub last_value : FieldName → List Given → ℕ
+last_value name given = unwrap_or (last_or None (values_for name given)) 0
 
 -- the value that a fixed row has: the format's identifier, and all ones
 abbrev pub fixed_value : Format → FieldRow → ℕ
@@ -29,7 +37,7 @@ fixed_value format r = cond (same_name r.name names.Identifier) (identifier_of f
 
 -- the value of a row: the fixed one, or that of the last entry with its name, or 0
 abbrev pub settled_value : Format → List Given → FieldRow → ℕ
-settled_value format given r = cond (is_fixed r.name format) (fixed_value format r) (last_value r.name 0 given)
+settled_value format given r = cond (is_fixed r.name format) (fixed_value format r) (last_value r.name given)
 
 -- the values of all rows
 abbrev pub settled : List FieldRow → Format → List Given → List ℕ
@@ -72,10 +80,12 @@ IsFieldFault rows format given (Unknown at) = IsUnknown rows format given at × 
 IsFieldFault rows format given (TooLarge at width) =
     IsTooLarge rows format given at width × AreKnownBelow rows format given at
 IsFieldFault rows format given AllOnes =
-    AreKnown rows format given × (format ≡ F10) × ((r : FieldRow) × Contains rows r × (r.name ≡ names.Fdra) × IsTrue (is_all_ones r.width (last_value names.Fdra 0 given)))
+    AreKnown rows format given × (format ≡ F10)
+    × ((r : FieldRow) × Contains rows r × (r.name ≡ names.Fdra) × IsTrue (is_all_ones r.width (last_value names.Fdra given)))
 
 -- the payload of the values that are asked for: each is known, and the settled values of all rows have it
-pub record IsPayloadOf (rows : List FieldRow) (format : Format) (given : List Given) (size : ℕ) (payload : List Bool) : Type 0 where
+pub record IsPayloadOf (rows : List FieldRow) (format : Format) (given : List Given) (size : ℕ) (payload : List Bool) : Type
+    0 where
   pub known : AreKnown rows format given
   pub packs : payload_of rows format (settled rows format given) size ≡ Some payload
 

@@ -2,7 +2,6 @@ pub mod Formats
 pub mod Words
 pub mod SameNames
 pub mod FieldLists
-pub mod LegalSettings
 pub mod Assignments
 pub mod Antennas
 pub mod FormatRows
@@ -13,3 +12,4 @@ pub mod GivenValues
 pub mod FirstFieldFault
 pub mod Alignment
 pub mod Equality
+pub mod FormatsOfSets

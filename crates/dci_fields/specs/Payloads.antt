@@ -1,7 +1,9 @@
 -- The payload of field values (3GPP TS 38.212, 7.3.1): any list of rows, one value for each.
 -- Each row has a value, the fixed rows too: theirs is the one value that the format lets them have. So the values are read
 -- off a payload, and at most one list of values has it.
-use Rattle.std.specs.Prelude.{◌≡◌, ℕ, ◌+◌, ◌-◌, ◌^◌, Bool, true, false, cond, not, ◌&&◌, ◌||◌, nat_eq, nat_lt, List, [], ◌∷◌, ◌++◌, Option, Some, None, replicate}
+use Rattle.std.specs.Prelude.{◌≡◌, ℕ, ◌+◌, ◌-◌, ◌^◌, Bool, true, false, cond, not, ◌&&◌, ◌||◌, nat_eq, nat_lt, List, []}
+use Rattle.std.specs.Prelude.{◌∷◌, ◌++◌, Option, Some, None, replicate}
+use Rattle.std.specs.List.{list_all, flat_map, zip}
 use Rattle.bits_core.specs.Bits.{bits_of}
 use Rattle.dci_fields.specs.declared.formats.Format.{Format}
 use Rattle.dci_fields.specs.declared.formats.Format.TheVariants.{F00, F10, Order, F01, F11}
@@ -39,15 +41,12 @@ is_allowed _ format width value = true
 
 -- the format allows each row its value
 abbrev pub are_allowed : List FieldRow → Format → List ℕ → Bool
-are_allowed [] format values = true
-are_allowed (r ∷ rs) format [] = true
-are_allowed (r ∷ rs) format (v ∷ vs) = is_allowed r.name format r.width v && are_allowed rs format vs
+are_allowed rows format values =
+    list_all (λ (p : FieldRow × ℕ). is_allowed p.0.name format p.0.width p.1) (zip rows values)
 
 -- the values in their widths, most significant bit first, joined
 abbrev pub joined : List FieldRow → List ℕ → List Bool
-joined [] values = []
-joined (r ∷ rs) [] = []
-joined (r ∷ rs) (v ∷ vs) = bits_of r.width v ++ joined rs vs
+joined rows values = flat_map (λ (p : FieldRow × ℕ). bits_of p.0.width p.1) (zip rows values)
 
 -- the payload of `size` bits: the joined values, then zeros. There is one where each value fits and is allowed
 unfoldable pub payload_of : List FieldRow → Format → List ℕ → ℕ → Option (List Bool)
@@ -76,12 +75,11 @@ shown_of format r value =
 
 -- the values that are shown, in order
 abbrev pub shown : List FieldRow → Format → List ℕ → List FieldValue
-shown [] format values = []
-shown (r ∷ rs) format [] = []
-shown (r ∷ rs) format (v ∷ vs) = shown_of format r v ++ shown rs format vs
+shown rows format values = flat_map (λ (p : FieldRow × ℕ). shown_of format p.0 p.1) (zip rows values)
 
 -- a payload carries these field values: it is the payload of a list of values of which these are shown
-pub record Carries (rows : List FieldRow) (format : Format) (size : ℕ) (payload : List Bool) (fields : List FieldValue) : Type 0 where
+pub record Carries (rows : List FieldRow) (format : Format) (size : ℕ) (payload : List Bool)
+    (fields : List FieldValue) : Type 0 where
   pub values : List ℕ
   pub packs : payload_of rows format values size ≡ Some payload
   pub shows : shown rows format values ≡ fields

@@ -1,7 +1,9 @@
 -- The words of the fields.
-use Rattle.std.specs.Prelude.{◌≡◌, ◌≢◌, ℕ, List, [], codes}
+use Rattle.std.specs.Prelude.{◌≡◌, ◌≢◌, ℕ, List, [], Option, codes, bytes_eq}
+use Rattle.std.specs.List.{find}
 use Rattle.dci_fields.specs.declared.names.FieldName.{FieldName}
 use Rattle.dci_fields.specs.declared.names.FieldName.TheVariants as names
+use Rattle.dci_fields.specs.declared.names.TheConstants.{NAMES}
 
 -- the word that names a field; the identifier has none
 abbrev pub word_of : FieldName → List ℕ
@@ -47,3 +49,7 @@ word_of names.Ulsch = codes "ulsch"
 -- a field that has a word is named by it
 abbrev pub IsWordOf : FieldName → List ℕ → Type 0
 IsWordOf name word = (name ≢ names.Identifier) × (word_of name ≡ word)
+
+-- the field that a word names, none where no field has it
+unfoldable pub field_named : List ℕ → Option FieldName
+field_named word = find (λ (name : FieldName). bytes_eq (word_of name) word) NAMES

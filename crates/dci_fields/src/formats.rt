@@ -1,6 +1,7 @@
 //! The formats of downlink control information.
-ghost use Rattle.std.specs.Prelude.{◌≡◌};
-ghost use Rattle.dci_fields.specs.Formats.{format_word, identifier_of};
+ghost use Rattle.std.specs.Prelude.{◌≡◌, ◌↔◌, Some};
+ghost use Rattle.dci_fields.specs.declared.formats.Format.{Format};
+ghost use Rattle.dci_fields.specs.Formats.{format_word, format_named, identifier_of};
 
 /// A format of downlink control information (3GPP TS 38.212, 7.3.1).
 #[derive(Clone, Copy, Debug, Default, PartialEq, Eq)]
@@ -28,6 +29,15 @@ pub enum Widths {
     Own,
 }
 
+/// All formats.
+const FORMATS: [Format; 5] = [
+    Format::F00,
+    Format::F10,
+    Format::Order,
+    Format::F01,
+    Format::F11,
+];
+
 impl Format {
     /// The word that names the format in texts.
     pub fn word(&self) -> &[u8]
@@ -54,4 +64,17 @@ impl Format {
             Format::F11 => 1,
         }
     }
+}
+
+/// The format with this word, None exactly where no format has it.
+pub fn format_of(word: &[u8]) -> Option<Format>
+    ensures named { result ≡ format_named word.now }
+    ensures exactly { (format : Format) → (result ≡ Some format) ↔ (format_word format ≡ word.now) }
+{
+    for format in &FORMATS {
+        if format.word() == word {
+            return Some(*format);
+        }
+    }
+    None
 }

@@ -1,7 +1,8 @@
 //! The fields of each format in order.
 ghost use Rattle.std.specs.Prelude.{◌≡◌, ◌≤◌};
-ghost use Rattle.dci_fields.specs.FormatRows.{rows_00, rows_10, rows_order, rows_01, rows_11, where_set, bwp_width, has_type1, downlink_index, uplink_index};
-ghost use Rattle.dci_fields.specs.LegalSettings.{IsBwp, AreUplinkSettings, AreDownlinkSettings};
+ghost use Rattle.dci_fields.specs.FormatRows.{rows_00, rows_10, rows_order, rows_01, rows_11, where_set, bwp_width};
+ghost use Rattle.dci_fields.specs.FormatRows.{has_type1, downlink_index, uplink_index};
+ghost use Rattle.rrc_settings.specs.LegalCell.{IsLegalBwp, IsLegalUplink, IsLegalDownlink};
 
 use crate::antennas::{antenna_widths, downlink_ports};
 use crate::{FieldList, FieldName, FieldRow, fdra_width};
@@ -98,8 +99,8 @@ fn uplink_index(codebook: &Codebook) -> u32
 
 /// Format 0_1 (3GPP TS 38.212, 7.3.1.1.2).
 pub(crate) fn rows_01(codebook: &Codebook, bwp: &Bwp, fields: &UplinkFields) -> FieldList
-    requires bwp { IsBwp bwp.now }
-    requires settings { AreUplinkSettings fields.now }
+    requires bwp { IsLegalBwp bwp.now }
+    requires settings { IsLegalUplink codebook.now fields.now }
     ensures { result ≡ rows_01 codebook.now bwp.now fields.now }
 {
     let antennas = antenna_widths(fields);
@@ -131,8 +132,8 @@ pub(crate) fn rows_01(codebook: &Codebook, bwp: &Bwp, fields: &UplinkFields) -> 
 
 /// Format 1_1 (3GPP TS 38.212, 7.3.1.2.2).
 pub(crate) fn rows_11(codebook: &Codebook, bwp: &Bwp, fields: &DownlinkFields) -> FieldList
-    requires bwp { IsBwp bwp.now }
-    requires settings { AreDownlinkSettings fields.now }
+    requires bwp { IsLegalBwp bwp.now }
+    requires settings { IsLegalDownlink fields.now }
     ensures { result ≡ rows_11 codebook.now bwp.now fields.now }
 {
     let second = fields.codewords == 2;

@@ -20,7 +20,7 @@ mod widths;
 
 pub use fault::{FieldFault, Given};
 pub use fitting::{fdra_of, fitted, order_list, width_of};
-pub use formats::{Format, Widths};
+pub use formats::{Format, Widths, format_of};
 pub use names::{FieldName, name_of};
 pub use packing::pack;
 pub use raw_lists::{has_fields, raw_list};

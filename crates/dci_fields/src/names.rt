@@ -1,7 +1,7 @@
 //! The names of the fields.
 ghost use Rattle.std.specs.Prelude.{◌≡◌, ◌↔◌, Some};
 ghost use Rattle.dci_fields.specs.declared.names.FieldName.{FieldName};
-ghost use Rattle.dci_fields.specs.Words.{word_of, IsWordOf};
+ghost use Rattle.dci_fields.specs.Words.{word_of, field_named, IsWordOf};
 
 /// The name of a field (3GPP TS 38.212, 7.3.1.1 and 7.3.1.2): one variant for each word, and the identifier.
 #[derive(Clone, Copy, Debug, Default, PartialEq, Eq)]
@@ -176,7 +176,8 @@ impl FieldName {
 
 /// The name with this word, None exactly where no name but the identifier has it.
 pub fn name_of(word: &[u8]) -> Option<FieldName>
-    ensures { (name : FieldName) → (result ≡ Some name) ↔ IsWordOf name word.now }
+    ensures named { result ≡ field_named word.now }
+    ensures exactly { (name : FieldName) → (result ≡ Some name) ↔ IsWordOf name word.now }
 {
     for name in &NAMES {
         if name.word() == word {

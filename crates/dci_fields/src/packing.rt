@@ -1,9 +1,11 @@
 //! The payload of the values that are asked for.
-ghost use Rattle.std.specs.Prelude.{◌≡◌, ◌+◌, ◌-◌, ◌^◌, ◌<◌, ◌≤◌, ◌↔◌, ◌++◌, Bool, List, Ok, Err, IfOk, IfErr, IfSome, false, length, replicate};
+ghost use Rattle.std.specs.Prelude.{◌≡◌, ◌+◌, ◌-◌, ◌^◌, ◌<◌, ◌≤◌, ◌↔◌, ◌++◌, Bool, List, Ok, Err, IfOk, IfErr, IfSome};
+ghost use Rattle.std.specs.Prelude.{false, length, replicate};
 ghost use Rattle.dci_fields.specs.declared.fault.FieldFault.{FieldFault};
 ghost use Rattle.dci_fields.specs.FieldLists.{width_of, AreNarrow, IsFieldList};
 ghost use Rattle.dci_fields.specs.Payloads.{payload_of};
-ghost use Rattle.dci_fields.specs.GivenValues.{last_value, settled_value, settled, width_for, AreKnown, IsFieldFault, IsPayloadOf, IsPacked};
+ghost use Rattle.dci_fields.specs.GivenValues.{last_value, settled_value, settled, width_for, AreKnown, IsFieldFault};
+ghost use Rattle.dci_fields.specs.GivenValues.{IsPayloadOf, IsPacked};
 
 use crate::rules::{is_allowed, is_fixed};
 use crate::{FieldFault, FieldList, FieldName, FieldRow, Format, Given};
@@ -116,7 +118,7 @@ fn settled_value(row: &FieldRow, format: Format, given: &[Given]) -> u64
 
 /// The value of the last entry with a name, 0 where there is none.
 fn last_value(name: FieldName, given: &[Given]) -> u64
-    ensures { result ≡ last_value name 0 given.now }
+    ensures { result ≡ last_value name given.now }
 {
     let mut value = 0;
     for entry in given {

@@ -1,7 +1,7 @@
 //! The fields of a format of a handset.
 ghost use Rattle.std.specs.Prelude.{◌≡◌, ◌<◌, IsTrue, length};
 ghost use Rattle.rrc_settings.specs.HandsetsOfCell.{handset_at};
-ghost use Rattle.dci_fields.specs.LegalSettings.{AreInitialParts, IsLegalHandset};
+ghost use Rattle.rrc_settings.specs.LegalCell.{IsLegalCell, IsLegalHandset};
 ghost use Rattle.dci_fields.specs.FormatRows.{raw_rows, rows_of, has_fields};
 
 use crate::formats_rows::{rows_00, rows_01, rows_10, rows_11, rows_order};
@@ -38,8 +38,8 @@ pub fn raw_list(cell: &Cell, handset: usize, format: Format, widths: Widths) -> 
 
 /// The same for a handset of the cell.
 fn list_of(cell: &RawCell, handset: &Handset, format: Format, widths: Widths) -> FieldList
-    requires initial { AreInitialParts cell.now }
-    requires own { IsLegalHandset handset.now }
+    requires legal { IsLegalCell cell.now }
+    requires own { IsLegalHandset cell.now handset.now }
     requires fields { IsTrue (has_fields handset.now format) }
     ensures { result ≡ rows_of cell.now handset.now format widths }
 {

@@ -1,5 +1,6 @@
 //! `==` of formats, names, rows and values, which holds exactly of equal values.
-ghost use Rattle.dci_fields.specs.Equality.{decides_format, decides_field_name, decides_given, decides_field_row, decides_field_value, decides_rows, decides_values};
+ghost use Rattle.dci_fields.specs.Equality.{decides_format, decides_field_name, decides_given, decides_field_row};
+ghost use Rattle.dci_fields.specs.Equality.{decides_field_value, decides_rows, decides_values};
 
 use crate::{FieldList, FieldName, FieldRow, FieldValue, Format, Given, Values};
 use rrc_settings::Same;

@@ -1,7 +1,8 @@
 //! Widths of the frequency domain resource assignment.
 ghost use Rattle.std.specs.Prelude.{◌≡◌, ◌≤◌};
-ghost use Rattle.dci_fields.specs.Assignments.{span_bits, fdra_width, downlink_blocks, uplink_blocks};
-ghost use Rattle.dci_fields.specs.LegalSettings.{IsBlockCount, IsGroupConfig, AreInitialParts, IsLegalHandset};
+ghost use Rattle.rrc_settings.specs.LegalCell.{IsLegalCell, IsLegalHandset};
+ghost use Rattle.dci_fields.specs.Assignments.{IsBlockCount, IsGroupConfig, span_bits, fdra_width};
+ghost use Rattle.dci_fields.specs.Assignments.{downlink_blocks, uplink_blocks};
 
 use crate::Widths;
 use alloc_fields::{bits_for, group_count};
@@ -42,8 +43,8 @@ pub(crate) fn span_bits(n: u16) -> u32
 
 /// The blocks that count for the assignment of format 1_0 (3GPP TS 38.212, 7.3.1.0).
 pub(crate) fn downlink_blocks(cell: &RawCell, handset: &Handset, widths: Widths) -> u16
-    requires initial { AreInitialParts cell.now }
-    requires own { IsLegalHandset handset.now }
+    requires legal { IsLegalCell cell.now }
+    requires own { IsLegalHandset cell.now handset.now }
     ensures value { result ≡ downlink_blocks cell.now handset.now widths }
     ensures count { IsBlockCount result }
 {
@@ -55,8 +56,8 @@ pub(crate) fn downlink_blocks(cell: &RawCell, handset: &Handset, widths: Widths)
 
 /// Those that count for the assignment of format 0_0.
 pub(crate) fn uplink_blocks(cell: &RawCell, handset: &Handset, widths: Widths) -> u16
-    requires initial { AreInitialParts cell.now }
-    requires own { IsLegalHandset handset.now }
+    requires legal { IsLegalCell cell.now }
+    requires own { IsLegalHandset cell.now handset.now }
     ensures value { result ≡ uplink_blocks cell.now handset.now widths }
     ensures count { IsBlockCount result }
 {

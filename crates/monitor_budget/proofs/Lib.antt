@@ -1,4 +1,3 @@
-pub mod Ranges
 pub mod Made
 pub mod Allotments
 pub mod TallyCounts
@@ -8,5 +7,5 @@ pub mod FinalCounts
 pub mod Placed
 pub mod Adding
 pub mod Distinct
-pub mod LegalSearchSets
 pub mod FewCandidates
+pub mod Spaces

@@ -14,4 +14,12 @@ pub numbered_made : (cces : ℕ) (sizes : List ℕ) (s : SearchSet) (symbol i m 
 unfolding numbered_candidates
 numbered_made cces sizes s symbol i m start level now next e f h =
     h ∙ ap (λ st. now ++ map (sized (record { symbol = symbol; level = level; candidate = m; start = st; size = 0 })) sizes) e
-    ∙ ap (λ lv. now ++ map (sized (record { symbol = symbol; level = lv; candidate = m; start = start_of s.base (level_at i) m (slice_index s.candidates i) cces; size = 0 })) sizes) f
+    ∙ ap (λ lv. now ++ map (sized
+    (record {
+      symbol = symbol;
+      level = lv;
+      candidate = m;
+      start = start_of s.base (level_at i) m
+          (slice_index s.candidates i) cces;
+      size = 0;
+    })) sizes) f

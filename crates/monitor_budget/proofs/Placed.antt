@@ -1,14 +1,16 @@
 -- Where the candidates of a set stand.
-use Rattle.std.proofs.Common.{◌≡◌, ℕ, zero, suc, ◌+◌, ◌*◌, ◌/◌, ◌%◌, ◌<◌, ◌≤◌, true, List, All, slice_index, refl, sym, subst, arith}
+use Rattle.std.proofs.Common.{◌≡◌, ℕ, zero, suc, ◌+◌, ◌*◌, ◌/◌, ◌%◌, ◌<◌, ◌≤◌, true, List, All, slice_index, refl, sym}
+use Rattle.std.proofs.Common.{subst, arith}
 use Rattle.std.specs.List.{range_with_len}
 use Rattle.std.proofs.Math.Nat.{mod-lt, div-add-mod, mul-le-mul_left}
 use Rattle.rrc_settings.specs.declared.settings.SearchSet.{SearchSet}
 use Rattle.rrc_settings.specs.AggregationLevels.{level_at, is_level}
-use Rattle.rrc_settings.specs.Conflicts.{has_bit}
+use Rattle.rrc_settings.specs.BitSets.{has_bit}
 use Rattle.search_starts.specs.Starts.{start_of}
-use Rattle.coreset_map.proofs.Members.{IsIn, in-map, in-range, in-flat_map, in-filter, at-in}
+use Rattle.list_facts.proofs.Members.{IsIn, in_map, in_range, in_flat_map, in_filter, at_in}
 use Rattle.monitor_budget.specs.declared.candidates.Candidate.{Candidate}
-use Rattle.monitor_budget.specs.SetCandidates.{symbols_of, candidate_at, numbered_candidates, level_candidates, symbol_candidates, set_candidates, AreAsked, IsPlaced}
+use Rattle.monitor_budget.specs.SetCandidates.{symbols_of, candidate_at, numbered_candidates, level_candidates}
+use Rattle.monitor_budget.specs.SetCandidates.{symbol_candidates, set_candidates, AreAsked, IsPlaced}
 
 -- a candidate of a set, by its symbol, level, number and size
 pub record IsOf (cces : ℕ) (sizes : List ℕ) (s : SearchSet) (c : Candidate) : Type 0 where
@@ -22,21 +24,23 @@ pub record IsOf (cces : ℕ) (sizes : List ℕ) (s : SearchSet) (c : Candidate) 
   pub sized : IsIn size sizes
   pub is : c ≡ candidate_at cces s symbol i m size
 
-pub in-set : (cces : ℕ) (sizes : List ℕ) (s : SearchSet) (c : Candidate) → IsIn c (set_candidates cces sizes s) → IsOf cces sizes s c
+-- a candidate of a set is of one symbol, level, number and size
+pub in_set : (cces : ℕ) (sizes : List ℕ) (s : SearchSet) (c : Candidate) → IsIn c (set_candidates cces sizes s)
+    → IsOf cces sizes s c
 unfolding numbered_candidates level_candidates symbol_candidates set_candidates
-in-set cces sizes s c h =
-    let (symbol, b, k) = in-flat_map (symbol_candidates cces sizes s) c (symbols_of s) h in
-    let (i, l, n) = in-flat_map (level_candidates cces sizes s symbol) c (range_with_len 0 5) k in
-    let (m, r, o) = in-flat_map (numbered_candidates cces sizes s symbol i) c (range_with_len 0 (slice_index s.candidates i)) n in
-    let (size, z, e) = in-map (candidate_at cces s symbol i m) c sizes o in
+in_set cces sizes s c h =
+    let (symbol, b, k) = in_flat_map (symbol_candidates cces sizes s) c (symbols_of s) h in
+    let (i, l, n) = in_flat_map (level_candidates cces sizes s symbol) c (range_with_len 0 5) k in
+    let (m, r, o) = in_flat_map (numbered_candidates cces sizes s symbol i) c (range_with_len 0 (slice_index s.candidates i)) n in
+    let (size, z, e) = in_map (candidate_at cces s symbol i m) c sizes o in
     record {
       symbol = symbol;
       i = i;
       m = m;
       size = size;
       begins = b;
-      level = let x = in-range i 0 5 l in let y = x.1 in omega (arith, y);
-      number = let x = in-range m 0 (slice_index s.candidates i) r in let y = x.1 in omega (arith, y);
+      level = let x = in_range i 0 5 l in let y = x.1 in omega (arith, y);
+      number = let x = in_range m 0 (slice_index s.candidates i) r in let y = x.1 in omega (arith, y);
       sized = z;
       is = e;
     }
@@ -49,43 +53,49 @@ is_level-at (suc (suc (suc zero))) h = refl
 is_level-at (suc (suc (suc (suc zero)))) h = refl
 is_level-at (suc (suc (suc (suc (suc n))))) h = absurd (omega arith)
 
-some-level : (i : ℕ) → i < 5 → 1 ≤ level_at i
-some-level zero h = omega arith
-some-level (suc zero) h = omega arith
-some-level (suc (suc zero)) h = omega arith
-some-level (suc (suc (suc zero))) h = omega arith
-some-level (suc (suc (suc (suc zero)))) h = omega arith
-some-level (suc (suc (suc (suc (suc n))))) h = absurd (omega arith)
+some_level : (i : ℕ) → i < 5 → 1 ≤ level_at i
+some_level zero h = omega arith
+some_level (suc zero) h = omega arith
+some_level (suc (suc zero)) h = omega arith
+some_level (suc (suc (suc zero))) h = omega arith
+some_level (suc (suc (suc (suc zero)))) h = omega arith
+some_level (suc (suc (suc (suc (suc n))))) h = absurd (omega arith)
 
 -- a candidate ends in the CORESET
-multiple-within : (level x quotient rest cces : ℕ) → level * quotient + rest ≡ cces → x < quotient → level * x + level ≤ cces
-multiple-within level x quotient rest cces e h =
+multiple_within : (level x quotient rest cces : ℕ) → level * quotient + rest ≡ cces → x < quotient → level * x + level ≤ cces
+multiple_within level x quotient rest cces e h =
     let m : level * suc x ≤ level * quotient = mul-le-mul_left level (let k : suc x ≤ quotient = omega arith in k) in
     let n : level * suc x ≡ level * x + level = grind arith in
     omega (arith, e, m, n)
 
-quotient-some : (level quotient rest cces : ℕ) → level * quotient + rest ≡ cces → rest < level → level ≤ cces → 0 < quotient
-quotient-some level zero rest cces e r h = absurd (let z : level * zero ≡ 0 = grind arith in omega (arith, e, r, h, z))
-quotient-some level (suc q) rest cces e r h = omega arith
+quotient_some : (level quotient rest cces : ℕ) → level * quotient + rest ≡ cces → rest < level → level ≤ cces → 0 < quotient
+quotient_some level zero rest cces e r h = absurd (let z : level * zero ≡ 0 = grind arith in omega (arith, e, r, h, z))
+quotient_some level (suc q) rest cces e r h = omega arith
 
-pub start-within : (y level m count cces : ℕ) → 1 ≤ level → level ≤ cces → start_of y level m count cces + level ≤ cces
-start-within y level m count cces some h =
+-- the CCEs of a candidate end in the CORESET
+pub start_within : (y level m count cces : ℕ) → 1 ≤ level → level ≤ cces → start_of y level m count cces + level ≤ cces
+start_within y level m count cces some h =
     let e = div-add-mod cces level in
-    let q = quotient-some level (cces / level) (cces % level) cces e (mod-lt cces some) h in
-    multiple-within level ((y + m * cces / (level * count)) % (cces / level)) (cces / level) (cces % level) cces e (mod-lt (y + m * cces / (level * count)) q)
+    let q = quotient_some level (cces / level) (cces % level) cces e (mod-lt cces some) h in
+    multiple_within level ((y + m * cces / (level * count)) % (cces / level)) (cces / level) (cces % level) cces e
+    (mod-lt (y + m * cces / (level * count)) q)
 
-pub is-placed : (cces : ℕ) (sizes : List ℕ) (s : SearchSet) (c : Candidate) → AreAsked cces s.candidates → IsIn c (set_candidates cces sizes s) → IsPlaced cces s c
-is-placed cces sizes s c asked h =
-    let o = in-set cces sizes s c h in
-    let b = in-filter (has_bit s.symbols) o.symbol (range_with_len 0 14) o.begins in
-    let r = in-range o.symbol 0 14 b.0 in
+-- a candidate of a set stands in its CORESET
+pub is_placed : (cces : ℕ) (sizes : List ℕ) (s : SearchSet) (c : Candidate) → AreAsked cces s.candidates
+    → IsIn c (set_candidates cces sizes s) → IsPlaced cces s c
+is_placed cces sizes s c asked h =
+    let o = in_set cces sizes s c h in
+    let b = in_filter (has_bit s.symbols) o.symbol (range_with_len 0 14) o.begins in
+    let r = in_range o.symbol 0 14 b.0 in
     let fits : level_at o.i ≤ cces = (asked o.i o.level).1 (let n = o.number in omega (arith, n)) in
     subst (λ (x : Candidate). IsPlaced cces s x) (sym o.is) (record {
       symbol = let k = r.1 in omega (arith, k);
       begins = b.1;
       level = is_level-at o.i o.level;
-      within = start-within s.base (level_at o.i) o.m (slice_index s.candidates o.i) cces (some-level o.i o.level) fits;
+      within = start_within s.base (level_at o.i) o.m (slice_index s.candidates o.i) cces (some_level o.i o.level) fits;
     })
 
-pub all-placed : (cces : ℕ) (sizes : List ℕ) (s : SearchSet) → AreAsked cces s.candidates → All (IsPlaced cces s) (set_candidates cces sizes s)
-all-placed cces sizes s asked k d l = is-placed cces sizes s _ asked (at-in (set_candidates cces sizes s) k d l)
+-- and so do all of them
+pub all_placed : (cces : ℕ) (sizes : List ℕ) (s : SearchSet) → AreAsked cces s.candidates
+    → All (IsPlaced cces s) (set_candidates cces sizes s)
+all_placed cces sizes s asked k d l = is_placed cces sizes s _ asked (at_in (set_candidates cces sizes s) k d l)

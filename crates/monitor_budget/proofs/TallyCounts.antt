@@ -8,40 +8,56 @@ use Rattle.rrc_settings.specs.declared.settings.Handset.{Handset}
 use Rattle.dci_fields.specs.declared.sizes.Sizes.{Sizes}
 use Rattle.monitor_budget.specs.declared.counted.Counted.{Counted}
 use Rattle.monitor_budget.specs.declared.tally.Tally.{Tally}
-use Rattle.monitor_budget.specs.Counts.{Cce, set_at, counted_of, all_counted, cces_of, all_cces, candidate_count, different_cces}
-use Rattle.monitor_budget.specs.Tally.{AddsCounted, AddsCces, Tallies}
+use Rattle.monitor_budget.specs.Counts.{Cce, counted_of, all_counted, cces_of, all_cces, candidate_count, different_cces}
+use Rattle.rrc_settings.specs.HandsetsOfCell.{set_at}
+use Rattle.monitor_budget.specs.Tally.{mark_count, AddsCounted, AddsCces, Tallies}
 use Rattle.monitor_budget.proofs.Adding.{counted_none, counted_then, cces_none, cces_then}
-use Rattle.monitor_budget.proofs.FinalCounts.{counted-are, cces-are}
+use Rattle.monitor_budget.proofs.FinalCounts.{counted_are, cces_are}
 
-pub tallies-none : (cell : RawCell) (h : Handset) (sizes : Sizes) (tally : Tally) → tally.seen.items ≡ [] → tally.marks ≡ replicate 32256 false
+-- a new tally counts no sets
+pub tallies_none : (cell : RawCell) (h : Handset) (sizes : Sizes) (tally : Tally) → tally.seen.items ≡ []
+    → tally.marks ≡ replicate mark_count false
     → Tallies cell h sizes [] tally
 unfolding all_counted all_cces
-tallies-none cell h sizes tally e f = record {
+tallies_none cell h sizes tally e f = record {
   counted = subst (λ (xs : List Counted). AddsCounted [] xs []) (sym e) (counted_none []);
-  cces = subst (λ (xs : List Bool). AddsCces (replicate 32256 false) xs []) (sym f) (cces_none (replicate 32256 false));
+  cces = subst (λ (xs : List Bool). AddsCces (replicate mark_count false) xs []) (sym f) (cces_none (replicate mark_count false));
 }
 
-one_more : {A : Type 0} (f : ℕ → List A) (places : List ℕ) (place : ℕ) → flat_map f places ++ f place ≡ flat_map f (places ++ place ∷ [])
+one_more : {A : Type 0} (f : ℕ → List A) (places : List ℕ) (place : ℕ)
+    → flat_map f places ++ f place ≡ flat_map f (places ++ place ∷ [])
 one_more f places place = sym (flat_map-append f places (place ∷ []) ∙ ap (λ xs. flat_map f places ++ xs) (append-nil (f place)))
 
-pub tallies-more : (cell : RawCell) (h : Handset) (sizes : Sizes) (places : List ℕ) (place : ℕ) (old new : Tally) → Tallies cell h sizes places old
+-- a tally counts one set more
+pub tallies_more : (cell : RawCell) (h : Handset) (sizes : Sizes) (places : List ℕ) (place : ℕ) (old new : Tally)
+    → Tallies cell h sizes places old
     → AddsCounted old.seen.items new.seen.items (counted_of cell h sizes (set_at h place))
     → AddsCces old.marks new.marks (cces_of cell h sizes (set_at h place))
     → Tallies cell h sizes (places ++ place ∷ []) new
 unfolding all_counted all_cces
-tallies-more cell h sizes places place old new t a b = record {
-  counted = subst (λ (xs : List Counted). AddsCounted [] new.seen.items xs) (one_more (λ p. counted_of cell h sizes (set_at h p)) places place)
-      (counted_then [] old.seen.items new.seen.items (flat_map (λ p. counted_of cell h sizes (set_at h p)) places) (counted_of cell h sizes (set_at h place)) t.counted a);
-  cces = subst (λ (xs : List Cce). AddsCces (replicate 32256 false) new.marks xs) (one_more (λ p. cces_of cell h sizes (set_at h p)) places place)
-      (cces_then (replicate 32256 false) old.marks new.marks (flat_map (λ p. cces_of cell h sizes (set_at h p)) places) (cces_of cell h sizes (set_at h place)) t.cces b);
+tallies_more cell h sizes places place old new t a b = record {
+  counted =
+      subst (λ (xs : List Counted). AddsCounted [] new.seen.items xs)
+      (one_more (λ p. counted_of cell h sizes (set_at h p)) places place)
+      (counted_then [] old.seen.items new.seen.items (flat_map (λ p. counted_of cell h sizes (set_at h p)) places)
+      (counted_of cell h sizes (set_at h place)) t.counted a);
+  cces =
+      subst (λ (xs : List Cce). AddsCces (replicate mark_count false) new.marks xs)
+      (one_more (λ p. cces_of cell h sizes (set_at h p)) places place)
+      (cces_then (replicate mark_count false) old.marks new.marks (flat_map (λ p. cces_of cell h sizes (set_at h p)) places)
+      (cces_of cell h sizes (set_at h place)) t.cces b);
 }
 
-pub candidates-are : (cell : RawCell) (h : Handset) (sizes : Sizes) (places : List ℕ) (tally : Tally) → Tallies cell h sizes places tally
+-- a tally has seen as many candidates as count
+pub candidates_are : (cell : RawCell) (h : Handset) (sizes : Sizes) (places : List ℕ) (tally : Tally)
+    → Tallies cell h sizes places tally
     → length tally.seen.items ≡ candidate_count cell h sizes places
 unfolding candidate_count
-candidates-are cell h sizes places tally t = counted-are tally.seen.items (all_counted cell h sizes places) t.counted
+candidates_are cell h sizes places tally t = counted_are tally.seen.items (all_counted cell h sizes places) t.counted
 
-pub different-are : (cell : RawCell) (h : Handset) (sizes : Sizes) (places : List ℕ) (tally : Tally) → Tallies cell h sizes places tally
-    → length tally.marks ≡ 32256 → count_by (λ b. b) tally.marks ≡ different_cces cell h sizes places
+-- and has as many marks as CCEs count
+pub different_are : (cell : RawCell) (h : Handset) (sizes : Sizes) (places : List ℕ) (tally : Tally)
+    → Tallies cell h sizes places tally
+    → length tally.marks ≡ mark_count → count_by (λ b. b) tally.marks ≡ different_cces cell h sizes places
 unfolding different_cces
-different-are cell h sizes places tally t e = cces-are tally.marks (all_cces cell h sizes places) e t.cces
+different_are cell h sizes places tally t e = cces_are tally.marks (all_cces cell h sizes places) e t.cces

@@ -1,15 +1,17 @@
--- Which sets a handset looks at in a slot (3GPP TS 38.213, 10.1): the common ones all, and of the others as many as keep both limits.
+-- Which sets a handset looks at in a slot (3GPP TS 38.213, 10.1): the common ones all, and of the others as many as
+-- keep both limits.
 use Rattle.std.specs.Prelude.{ℕ, zero, suc, ◌++◌, Bool, true, false, not, ◌&&◌, ◌==◌, cond, List, Result, Ok, Err, length, take}
 use Rattle.std.specs.List.{range_with_len, flat_map, filter}
 use Rattle.rrc_settings.specs.declared.settings.RawCell.{RawCell}
 use Rattle.rrc_settings.specs.declared.settings.Handset.{Handset}
 use Rattle.rrc_settings.specs.declared.settings.SetKind.{SetKind}
-use Rattle.rrc_settings.specs.Conflicts.{is_common}
+use Rattle.rrc_settings.specs.SetKinds.{is_common}
 use Rattle.dci_fields.specs.declared.sizes.Sizes.{Sizes}
 use Rattle.search_starts.specs.Calendar.{slots_before, is_monitored}
 use Rattle.monitor_budget.specs.declared.allotment.CommonOver.{CommonOver}
 use Rattle.monitor_budget.specs.declared.allotment.Allotment.{Allotment}
-use Rattle.monitor_budget.specs.Counts.{set_at, candidate_count, different_cces}
+use Rattle.monitor_budget.specs.Counts.{candidate_count, different_cces}
+use Rattle.rrc_settings.specs.HandsetsOfCell.{set_at}
 use Rattle.monitor_budget.specs.Limits.{are_within}
 
 -- whether a kind of set is wanted: common, or one of the handset's own

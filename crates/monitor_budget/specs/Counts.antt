@@ -1,42 +1,18 @@
 -- How many candidates and CCEs a handset looks at in a slot (3GPP TS 38.213, 10.1): each counts once, however many sets have it.
-use Rattle.std.specs.Prelude.{ℕ, ◌≤◌, All, Bool, ◌&&◌, ◌==◌, List, [], map, slice_index_or, unwrap_or}
+use Rattle.std.specs.Prelude.{ℕ, ◌≤◌, All, Bool, ◌&&◌, ◌==◌, List, map}
 use Rattle.std.specs.List.{range_with_len, flat_map}
 use Rattle.std.specs.Set.{distinct_count}
 use Rattle.rrc_settings.specs.declared.settings.RawCell.{RawCell}
 use Rattle.rrc_settings.specs.declared.settings.Handset.{Handset}
-use Rattle.rrc_settings.specs.declared.settings.Coreset.{Coreset}
 use Rattle.rrc_settings.specs.declared.settings.SearchSet.{SearchSet}
-use Rattle.rrc_settings.specs.declared.settings.SetKind.TheVariants as kinds
-use Rattle.rrc_settings.specs.Conflicts.{coreset_numbered}
+use Rattle.rrc_settings.specs.HandsetsOfCell.{set_at, coreset_of}
 use Rattle.dci_fields.specs.declared.sizes.Sizes.{Sizes}
 use Rattle.coreset_map.specs.ControlResources.{cce_count}
-use Rattle.coreset_map.specs.ResourcesOfCell.{no_coreset, resources_in}
+use Rattle.coreset_map.specs.ResourcesOfCell.{resources_in}
 use Rattle.monitor_budget.specs.declared.candidates.Candidate.{Candidate}
 use Rattle.monitor_budget.specs.declared.counted.Counted.{Counted}
 use Rattle.monitor_budget.specs.SetCandidates.{IsPlaced, sizes_in, set_candidates}
 use Rattle.monitor_budget.specs.Scrambling.{scrambling_start}
-
--- a search space set with nothing set
-abbrev pub no_set : SearchSet
-no_set = record {
-  number = 0;
-  coreset = 0;
-  kind = kinds.Common;
-  period = 0;
-  offset = 0;
-  duration = 0;
-  symbols = 0;
-  candidates = [];
-  base = 0;
-}
-
--- a set of a handset, by its place in the list
-abbrev pub set_at : Handset → ℕ → SearchSet
-set_at h place = slice_index_or h.sets.items place no_set
-
--- the CORESET of a set: the one that has the number
-abbrev pub coreset_of : Handset → SearchSet → Coreset
-coreset_of h s = unwrap_or (coreset_numbered s.coreset h.coresets.items) no_coreset
 
 -- how many CCEs the CORESET of a set has
 abbrev pub cces_under : RawCell → Handset → SearchSet → ℕ
@@ -75,13 +51,14 @@ unfoldable pub all_counted : RawCell → Handset → Sizes → List ℕ → List
 all_counted cell h sizes places = flat_map (λ place. counted_of cell h sizes (set_at h place)) places
 
 -- whether two candidates count as one
-abbrev pub is_counted : Counted → Counted → Bool
-is_counted a b =
-    a.coreset == b.coreset && (a.symbol == b.symbol && (a.start == b.start && (a.level == b.level && (a.scramble == b.scramble && a.size == b.size))))
+abbrev pub count_as_one : Counted → Counted → Bool
+count_as_one a b =
+    a.coreset == b.coreset && (a.symbol == b.symbol
+    && (a.start == b.start && (a.level == b.level && (a.scramble == b.scramble && a.size == b.size))))
 
 -- how many candidates count
 unfoldable pub candidate_count : RawCell → Handset → Sizes → List ℕ → ℕ
-candidate_count cell h sizes places = distinct_count is_counted (all_counted cell h sizes places)
+candidate_count cell h sizes places = distinct_count count_as_one (all_counted cell h sizes places)
 
 -- a CCE as it counts: one of a CORESET that begins at a symbol
 pub record Cce : Type 0 where
@@ -106,10 +83,10 @@ cces_of cell h sizes s = flat_map (cces_of_candidate s) (candidates_of cell h si
 unfoldable pub all_cces : RawCell → Handset → Sizes → List ℕ → List Cce
 all_cces cell h sizes places = flat_map (λ place. cces_of cell h sizes (set_at h place)) places
 
--- whether two CCEs are the same
-abbrev pub is_cce : Cce → Cce → Bool
-is_cce a b = a.coreset == b.coreset && (a.symbol == b.symbol && a.cce == b.cce)
+-- whether two CCEs are one
+abbrev pub are_one_cce : Cce → Cce → Bool
+are_one_cce a b = a.coreset == b.coreset && (a.symbol == b.symbol && a.cce == b.cce)
 
 -- how many CCEs count
 unfoldable pub different_cces : RawCell → Handset → Sizes → List ℕ → ℕ
-different_cces cell h sizes places = distinct_count is_cce (all_cces cell h sizes places)
+different_cces cell h sizes places = distinct_count are_one_cce (all_cces cell h sizes places)

@@ -1,12 +1,13 @@
 -- The candidates of a search space set in a slot (3GPP TS 38.213, 10.1), in the order in which they are searched: by first
 -- symbol, aggregation level, number and size.
-use Rattle.std.specs.Prelude.{◌≡◌, ℕ, ◌+◌, ◌<◌, ◌≤◌, ◌==◌, cond, min, max, true, List, [], ◌∷◌, Option, Some, None, map, slice_index}
+use Rattle.std.specs.Prelude.{◌≡◌, ℕ, ◌+◌, ◌<◌, ◌≤◌, ◌==◌, cond, min, max, true, List, [], ◌∷◌, Option, Some, None, map}
+use Rattle.std.specs.Prelude.{slice_index}
 use Rattle.std.specs.List.{range_with_len, flat_map, filter}
 use Rattle.std.specs.Option.{option_to_list}
 use Rattle.rrc_settings.specs.declared.settings.SearchSet.{SearchSet}
 use Rattle.rrc_settings.specs.declared.settings.SetKind.{SetKind}
 use Rattle.rrc_settings.specs.declared.settings.SetKind.TheVariants.{Common, Fallback, Specific}
-use Rattle.rrc_settings.specs.Conflicts.{has_bit}
+use Rattle.rrc_settings.specs.BitSets.{has_bit}
 use Rattle.rrc_settings.specs.AggregationLevels.{level_at, is_level}
 use Rattle.dci_fields.specs.declared.sizes.Sizes.{Sizes}
 use Rattle.search_starts.specs.Starts.{start_of}

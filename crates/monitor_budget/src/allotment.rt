@@ -1,18 +1,18 @@
 //! Which sets a handset looks at in a slot (3GPP TS 38.213, 10.1).
-ghost use Rattle.std.specs.Prelude.{◌≡◌, ◌+◌, ◌*◌, ◌^◌, ◌<◌, ◌≤◌, ◌++◌, true, All, IfOk, length};
-ghost use Rattle.rrc_settings.specs.HandsetsOfCell.{handset_at};
-ghost use Rattle.monitor_budget.specs.Counts.{set_at, cces_of, counted_of, scrambling_of};
-ghost use Rattle.monitor_budget.specs.Tally.{AddsCces, AddsCounted, Tallies};
+ghost use Rattle.std.specs.Prelude.{◌≡◌, ◌+◌, ◌*◌, ◌^◌, ◌<◌, ◌≤◌, ◌++◌, [], true, false, All, IfOk, length, replicate};
+ghost use Rattle.rrc_settings.specs.HandsetsOfCell.{handset_at, set_at};
+ghost use Rattle.rrc_settings.specs.LegalCell.{IsLegalHandset};
+ghost use Rattle.monitor_budget.specs.Counts.{cces_of, counted_of};
+ghost use Rattle.monitor_budget.specs.Tally.{mark_count, AddsCces, AddsCounted, Tallies};
 ghost use Rattle.monitor_budget.specs.Allotting.{allotment_of, allotted, keep_limits, longest_front};
 
 use crate::calendar::sets_in_slot;
-use crate::candidates::candidates_of;
 use crate::limits::keep_limits;
-use crate::sets::{handset_in, scrambling_of, set_in};
+use crate::space::{Space, handset_in};
 use crate::tally::Tally;
 use arrayvec::ArrayVec;
 use dci_fields::Sizes;
-use rrc_settings::Cell;
+use rrc_settings::{Cell, Handset};
 
 /// The common sets of a slot exceed a limit.
 #[derive(Clone, Copy, Debug, Default, PartialEq, Eq)]
@@ -48,44 +48,63 @@ pub fn allot(
     requires frame { frame ≤ 1023 }
     requires slot { slot < 10 * 2 ^ cell.now.mu }
     ensures allotted { result ≡ allotted cell.now (handset_at cell.now handset) sizes.now frame slot }
-    ensures places { IfOk result (λ allotment. All (λ place. place < length (handset_at cell.now handset).sets.items) allotment.sets.items) }
+    ensures places { IfOk result (λ allotment. All (λ place. place < length (handset_at cell.now handset).sets.items)
+        allotment.sets.items) }
+{
+    allot_to(cell, handset_in(cell, handset), sizes, frame, slot)
+}
+
+/// The same, for a handset of the cell.
+fn allot_to(
+    cell: &Cell,
+    handset: &Handset,
+    sizes: &Sizes,
+    frame: u16,
+    slot: u16,
+) -> Result<Allotment, CommonOver>
+    requires legal { IsLegalHandset cell.now handset.now }
+    requires frame { frame ≤ 1023 }
+    requires slot { slot < 10 * 2 ^ cell.now.mu }
+    ensures allotted { result ≡ allotted cell.now handset.now sizes.now frame slot }
+    ensures places { IfOk result (λ allotment. All (λ place. place < length handset.now.sets.items) allotment.sets.items) }
 {
     let common = sets_in_slot(cell, handset, true, frame, slot);
     let own = sets_in_slot(cell, handset, false, frame, slot);
-    let tally = count_sets(cell, handset, sizes, common.as_slice());
+    let mut tally = Tally::new();
+    count_sets(&mut tally, cell, handset, sizes, common.as_slice());
     let candidates = tally.candidates();
     let cces = tally.cces();
     if !keep_limits(cell, candidates, cces) {
         return Err(CommonOver { candidates, cces });
     }
-    Ok(with_own(cell, handset, sizes, common, own.as_slice(), tally))
+    Ok(with_own(&mut tally, cell, handset, sizes, common, own.as_slice()))
 }
 
 /// The common sets, and the longest front of the handset's own sets that keeps both limits with them. The tally counts
 /// the common sets, which keep the limits.
 fn with_own(
+    tally: &mut Tally,
     cell: &Cell,
-    handset: usize,
+    handset: &Handset,
     sizes: &Sizes,
     common: ArrayVec<u16, 10>,
     own: &[u16],
-    tally: Tally,
 ) -> Allotment
-    requires handset { handset < length cell.now.handsets }
+    requires legal { IsLegalHandset cell.now handset.now }
     requires room { length common.items + length own.now ≤ 10 }
-    requires places { All (λ place. place < length (handset_at cell.now handset).sets.items) own.now }
-    requires tally { Tallies cell.now (handset_at cell.now handset) sizes.now common.items tally }
-    requires within { keep_limits cell.now (handset_at cell.now handset) sizes.now common.items ≡ true }
-    ensures { result ≡ allotment_of cell.now (handset_at cell.now handset) sizes.now (common.items ++ longest_front cell.now (handset_at cell.now handset) sizes.now common.items own.now) }
+    requires places { All (λ place. place < length handset.now.sets.items) own.now }
+    requires tally { Tallies cell.now handset.now sizes.now common.items tally.old }
+    requires within { keep_limits cell.now handset.now sizes.now common.items ≡ true }
+    ensures { result ≡ allotment_of cell.now handset.now sizes.now
+        (common.items ++ longest_front cell.now handset.now sizes.now common.items own.now) }
 {
-    let mut tally = tally;
     let mut allotment = Allotment {
         sets: common,
         candidates: tally.candidates(),
         cces: tally.cces(),
     };
     for place in own {
-        count_set(&mut tally, cell, handset, sizes, *place);
+        count_set(tally, cell, handset, sizes, *place);
         let candidates = tally.candidates();
         let cces = tally.cces();
         if !keep_limits(cell, candidates, cces) {
@@ -98,33 +117,32 @@ fn with_own(
     allotment
 }
 
-/// Counts the sets at some places.
-fn count_sets(cell: &Cell, handset: usize, sizes: &Sizes, places: &[u16]) -> Tally
-    requires handset { handset < length cell.now.handsets }
+/// Counts the sets at some places, where nothing was counted before.
+fn count_sets(tally: &mut Tally, cell: &Cell, handset: &Handset, sizes: &Sizes, places: &[u16])
+    requires legal { IsLegalHandset cell.now handset.now }
     requires few { length places.now ≤ 10 }
-    requires places { All (λ place. place < length (handset_at cell.now handset).sets.items) places.now }
-    ensures { Tallies cell.now (handset_at cell.now handset) sizes.now places.now result }
+    requires places { All (λ place. place < length handset.now.sets.items) places.now }
+    requires seen { tally.old.seen.items ≡ [] }
+    requires marks { tally.old.marks ≡ replicate mark_count false }
+    ensures { Tallies cell.now handset.now sizes.now places.now tally.new }
 {
-    let mut tally = Tally::new();
     for place in places {
-        count_set(&mut tally, cell, handset, sizes, *place);
+        count_set(tally, cell, handset, sizes, *place);
     }
-    tally
 }
 
 /// Counts the set at a place.
 #[tactic(auto, unfolding(crate::specs::Counts::counted_of, crate::specs::Counts::cces_of))]
-fn count_set(tally: &mut Tally, cell: &Cell, handset: usize, sizes: &Sizes, place: u16)
-    requires handset { handset < length cell.now.handsets }
-    requires place { place < length (handset_at cell.now handset).sets.items }
+fn count_set(tally: &mut Tally, cell: &Cell, handset: &Handset, sizes: &Sizes, place: u16)
+    requires legal { IsLegalHandset cell.now handset.now }
+    requires place { place < length handset.now.sets.items }
     requires room { length tally.old.seen.items + 1120 ≤ 11200 }
-    ensures counted { AddsCounted tally.old.seen.items tally.new.seen.items (counted_of cell.now (handset_at cell.now handset) sizes.now (set_at (handset_at cell.now handset) place)) }
-    ensures cces { AddsCces tally.old.marks tally.new.marks (cces_of cell.now (handset_at cell.now handset) sizes.now (set_at (handset_at cell.now handset) place)) }
+    ensures counted { AddsCounted tally.old.seen.items tally.new.seen.items
+        (counted_of cell.now handset.now sizes.now (set_at handset.now place)) }
+    ensures cces { AddsCces tally.old.marks tally.new.marks (cces_of cell.now handset.now sizes.now (set_at handset.now place)) }
     ensures few { length tally.new.seen.items ≤ length tally.old.seen.items + 1120 }
 {
-    let place = usize::from(place);
-    let candidates = candidates_of(cell, handset, place, sizes);
-    let set = set_in(handset_in(cell, handset), place);
-    let scramble = scrambling_of(cell, handset, place);
-    tally.add(set, scramble, candidates.as_slice());
+    let space = Space::of(cell, handset, &handset.sets[usize::from(place)]);
+    let candidates = space.candidates(sizes);
+    tally.add(&space.set, space.scramble(), candidates.as_slice());
 }

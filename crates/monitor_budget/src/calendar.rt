@@ -1,29 +1,25 @@
 //! The sets of a handset that are monitored in a slot, by their numbers (3GPP TS 38.213, 10.1).
 ghost use Rattle.std.specs.Prelude.{◌≡◌, ◌+◌, ◌*◌, ◌^◌, ◌<◌, ◌≤◌, ◌++◌, length};
-ghost use Rattle.rrc_settings.specs.Legal.{IsLegal};
-ghost use Rattle.rrc_settings.specs.HandsetsOfCell.{handset_at};
+ghost use Rattle.rrc_settings.specs.LegalCell.{IsLegalHandset};
 ghost use Rattle.monitor_budget.specs.Allotting.{is_searched, is_wanted, numbered_sets, sets_in_slot};
 
-use crate::sets::{handset_in, set_in};
 use arrayvec::ArrayVec;
-use rrc_settings::{Cell, SetKind};
+use rrc_settings::{Cell, Handset, SetKind};
 use search_starts::is_monitored;
 
 /// The places of the sets of a handset that are monitored in a slot, by rising number: the common ones, or its own.
 pub(crate) fn sets_in_slot(
     cell: &Cell,
-    handset: usize,
+    handset: &Handset,
     common: bool,
     frame: u16,
     slot: u16,
 ) -> ArrayVec<u16, 10>
-    requires handset { handset < length cell.now.handsets }
+    requires legal { IsLegalHandset cell.now handset.now }
     requires frame { frame ≤ 1023 }
     requires slot { slot < 10 * 2 ^ cell.now.mu }
-    ensures sets { result.items ≡ sets_in_slot cell.now (handset_at cell.now handset) common frame slot }
-    ensures legal { IsLegal cell.now }
+    ensures { result.items ≡ sets_in_slot cell.now handset.now common frame slot }
 {
-    let _settings = cell.raw();
     let mut places = ArrayVec::new();
     for number in 1..40 {
         push_numbered(&mut places, cell, handset, common, frame, slot, number);
@@ -35,20 +31,19 @@ pub(crate) fn sets_in_slot(
 fn push_numbered(
     places: &mut ArrayVec<u16, 10>,
     cell: &Cell,
-    handset: usize,
+    handset: &Handset,
     common: bool,
     frame: u16,
     slot: u16,
     number: u16,
 )
-    requires handset { handset < length cell.now.handsets }
+    requires legal { IsLegalHandset cell.now handset.now }
     requires frame { frame ≤ 1023 }
     requires slot { slot < 10 * 2 ^ cell.now.mu }
-    requires room { length places.old.items + length (numbered_sets cell.now (handset_at cell.now handset) common frame slot number) ≤ 10 }
-    ensures { places.new.items ≡ places.old.items ++ numbered_sets cell.now (handset_at cell.now handset) common frame slot number }
+    requires room { length places.old.items + length (numbered_sets cell.now handset.now common frame slot number) ≤ 10 }
+    ensures { places.new.items ≡ places.old.items ++ numbered_sets cell.now handset.now common frame slot number }
 {
-    let count = handset_in(cell, handset).sets.len();
-    for place in 0..count {
+    for place in 0..handset.sets.len() {
         if is_searched(cell, handset, common, frame, slot, number, place) {
             places.push(place as u16);
         }
@@ -58,20 +53,20 @@ fn push_numbered(
 /// Whether the set at a place has a number, is of the wanted kinds and is monitored in a slot.
 fn is_searched(
     cell: &Cell,
-    handset: usize,
+    handset: &Handset,
     common: bool,
     frame: u16,
     slot: u16,
     number: u16,
     place: usize,
 ) -> bool
-    requires handset { handset < length cell.now.handsets }
+    requires legal { IsLegalHandset cell.now handset.now }
     requires frame { frame ≤ 1023 }
     requires slot { slot < 10 * 2 ^ cell.now.mu }
-    requires place { place < length (handset_at cell.now handset).sets.items }
-    ensures { result ≡ is_searched cell.now (handset_at cell.now handset) common frame slot number place }
+    requires place { place < length handset.now.sets.items }
+    ensures { result ≡ is_searched cell.now handset.now common frame slot number place }
 {
-    let set = set_in(handset_in(cell, handset), place);
+    let set = &handset.sets[place];
     set.number == number
         && is_wanted(common, set.kind)
         && is_monitored(set, cell.raw().mu, frame, slot)
@@ -81,9 +76,5 @@ fn is_searched(
 fn is_wanted(common: bool, kind: SetKind) -> bool
     ensures { result ≡ is_wanted common kind }
 {
-    match kind {
-        SetKind::Common => common,
-        SetKind::Fallback => !common,
-        SetKind::Specific => !common,
-    }
+    common == (kind == SetKind::Common)
 }

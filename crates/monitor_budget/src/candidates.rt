@@ -1,10 +1,10 @@
 //! The candidates of a search space set in a slot (3GPP TS 38.213, 10.1).
 ghost use Rattle.std.specs.Prelude.{◌≡◌, ℕ, ◌+◌, ◌*◌, ◌<◌, ◌≤◌, ◌++◌, map, length, slice_index};
-ghost use Rattle.rrc_settings.specs.HandsetsOfCell.{handset_at};
-ghost use Rattle.monitor_budget.specs.Counts.{set_at, candidates_of, ArePlaced};
+ghost use Rattle.rrc_settings.specs.HandsetsOfCell.{handset_at, set_at};
+ghost use Rattle.monitor_budget.specs.Counts.{candidates_of, ArePlaced};
 ghost use Rattle.monitor_budget.specs.SetCandidates.{AreAsked, level_candidates, set_candidates, sized, symbol_candidates};
 
-use crate::sets::{cces_under, handset_in, set_in, sizes_in};
+use crate::space::{Space, handset_in};
 use arrayvec::ArrayVec;
 use dci_fields::Sizes;
 use rrc_settings::{Cell, LEVELS, SearchSet, has_bit};
@@ -34,20 +34,22 @@ pub fn candidates_of(
 ) -> ArrayVec<Candidate, 1120>
     requires handset { handset < length cell.now.handsets }
     requires set { set < length (handset_at cell.now handset).sets.items }
-    ensures items { result.items ≡ candidates_of cell.now (handset_at cell.now handset) sizes.now (set_at (handset_at cell.now handset) set) }
+    ensures items { result.items ≡ candidates_of cell.now (handset_at cell.now handset) sizes.now
+        (set_at (handset_at cell.now handset) set) }
     ensures few { length result.items ≤ 1120 }
     ensures placed { ArePlaced cell.now (handset_at cell.now handset) (set_at (handset_at cell.now handset) set) result.items }
 {
-    let cces = cces_under(cell, handset, set);
-    let set = set_in(handset_in(cell, handset), set);
-    let sizes = sizes_in(sizes, set.kind);
-    let mut out = ArrayVec::new();
-    push_set(&mut out, cces, sizes.as_slice(), set);
-    out
+    let owner = handset_in(cell, handset);
+    Space::of(cell, owner, &owner.sets[set]).candidates(sizes)
 }
 
 /// Appends the candidates of a set.
-fn push_set(out: &mut ArrayVec<Candidate, 1120>, cces: u16, sizes: &[u16], set: &SearchSet)
+pub(crate) fn push_set(
+    out: &mut ArrayVec<Candidate, 1120>,
+    cces: u16,
+    sizes: &[u16],
+    set: &SearchSet,
+)
     requires empty { length out.old.items ≡ 0 }
     requires sizes { length sizes.now ≤ 2 }
     requires asked { AreAsked cces set.now.candidates }

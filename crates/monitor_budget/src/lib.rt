@@ -9,9 +9,10 @@ mod limits;
 mod marks;
 mod same;
 mod scrambling;
-mod sets;
+mod sizes;
+mod space;
 mod tally;
 
 pub use allotment::{Allotment, CommonOver, allot};
 pub use candidates::{Candidate, candidates_of};
-pub use sets::{coreset_under, handset_in, scrambling_of, set_in};
+pub use space::{Space, handset_in};

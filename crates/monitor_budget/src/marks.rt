@@ -1,12 +1,16 @@
 //! Marks of CCEs, and how many there are.
-ghost use Rattle.std.specs.Prelude.{◌≡◌, ◌≢◌, ℕ, ◌+◌, ◌<◌, ◌≤◌, true, false, replicate, length, slice_index_or, slice_set, count_by};
+ghost use Rattle.std.specs.Prelude.{◌≡◌, ◌≢◌, ℕ, ◌+◌, ◌<◌, ◌≤◌, true, false, replicate, length, slice_index_or};
+ghost use Rattle.std.specs.Prelude.{slice_set, count_by};
 ghost use Rattle.monitor_budget.specs.Counts.{Cce, cces_from};
-ghost use Rattle.monitor_budget.specs.Tally.{AddsCces, mark_of};
+ghost use Rattle.monitor_budget.specs.Tally.{mark_count, mark_of, marks_each, AddsCces};
 
 use std::marker::Model;
 
-/// How many marks there are: 192 for each of 14 symbols, for each number of a CORESET, 0 to 11.
-const MARKS: usize = 12 * 14 * 192;
+/// How many CCEs of a CORESET have marks: as many as a CORESET has at most.
+const EACH: usize = 192;
+
+/// How many marks there are: for each number of a CORESET, 0 to 11, and each of 14 symbols.
+const MARKS: usize = 12 * 14 * EACH;
 
 /// A mark for each CCE that may count, seen as the list of them.
 #[derive(Drop)]
@@ -28,7 +32,7 @@ impl Model for Marks {
 impl Marks {
     /// No mark is set.
     pub fn new() -> Marks
-        ensures { result ≡ replicate 32256 false }
+        ensures { result ≡ replicate mark_count false }
     {
         Marks {
             marks: [false; MARKS],
@@ -39,14 +43,14 @@ impl Marks {
     /// How many marks are set.
     pub fn count(&self) -> u16
         ensures value { result ≡ count_by (λ b. b) self.now }
-        ensures size { length self.now ≡ 32256 }
+        ensures size { length self.now ≡ mark_count }
     {
         self.count
     }
 
     /// Sets a mark.
     pub fn set(&mut self, at: usize)
-        requires { at < 32256 }
+        requires { at < mark_count }
         ensures marks { self.new ≡ slice_set self.old at true }
         ensures there { slice_index_or self.new at false ≡ true }
         ensures others { (i : ℕ) → i ≢ at → slice_index_or self.new i false ≡ slice_index_or self.old i false }
@@ -61,7 +65,7 @@ impl Marks {
     pub fn set_all(&mut self, coreset: u16, symbol: u8, start: u16, level: u8)
         requires coreset { coreset ≤ 11 }
         requires symbol { symbol < 14 }
-        requires cces { start + level ≤ 192 }
+        requires cces { start + level ≤ marks_each }
         ensures { AddsCces self.old self.new (cces_from coreset symbol start level) }
     {
         for cce in start..start + u16::from(level) {
@@ -74,9 +78,9 @@ impl Marks {
 fn mark_of(coreset: u16, symbol: u8, cce: u16) -> usize
     requires coreset { coreset ≤ 11 }
     requires symbol { symbol < 14 }
-    requires cce { cce < 192 }
+    requires cce { cce < marks_each }
     ensures value { result ≡ mark_of coreset symbol cce }
-    ensures below { result < 32256 }
+    ensures below { result < mark_count }
 {
-    (usize::from(coreset) * 14 + usize::from(symbol)) * 192 + usize::from(cce)
+    (usize::from(coreset) * 14 + usize::from(symbol)) * EACH + usize::from(cce)
 }

@@ -12,8 +12,7 @@ pub fn scrambling_start(kind: SetKind, cell: u16, rnti: u16, id: Option<u16>) ->
 {
     match kind {
         SetKind::Common => sequence_start(0, cell),
-        SetKind::Fallback => own_start(cell, rnti, id),
-        SetKind::Specific => own_start(cell, rnti, id),
+        SetKind::Fallback | SetKind::Specific => own_start(cell, rnti, id),
     }
 }
 

@@ -2,7 +2,7 @@
 ghost use Rattle.std.specs.Prelude.{◌≡◌, ◌+◌, ◌≤◌, ◌<◌, [], ◌∷◌, false, replicate, map, length, count_by};
 ghost use Rattle.std.specs.List.{flat_map};
 ghost use Rattle.monitor_budget.specs.Counts.{cces_of_candidate, counted_as};
-ghost use Rattle.monitor_budget.specs.Tally.{AddsCces, AddsCounted, AreMarkable};
+ghost use Rattle.monitor_budget.specs.Tally.{mark_count, AddsCces, AddsCounted, AreMarkable};
 
 use crate::Candidate;
 use crate::counted::Counted;
@@ -21,7 +21,7 @@ impl Tally {
     /// Nothing is counted.
     pub fn new() -> Tally
         ensures seen { result.seen.items ≡ [] }
-        ensures marks { result.marks ≡ replicate 32256 false }
+        ensures marks { result.marks ≡ replicate mark_count false }
     {
         Tally {
             seen: ArrayVec::new(),
@@ -39,7 +39,7 @@ impl Tally {
     /// How many CCEs are counted.
     pub fn cces(&self) -> u16
         ensures value { result ≡ count_by (λ b. b) self.now.marks }
-        ensures size { length self.now.marks ≡ 32256 }
+        ensures size { length self.now.marks ≡ mark_count }
     {
         self.marks.count()
     }

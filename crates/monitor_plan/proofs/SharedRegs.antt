@@ -22,7 +22,8 @@ abbrev stands : ℕ → ℕ → ℕ → Reg → Bool
 stands first symbol block r = first + r.symbol == symbol && r.block == block
 
 has_from : (w : Watch) (symbol block : ℕ) → has_reg w symbol block ≡ true
-    → (k : ℕ) × (k < length w.regs.items) × (w.symbol + (reg_at w.regs.items k).symbol ≡ symbol) × ((reg_at w.regs.items k).block ≡ block)
+    → (k : ℕ) × (k < length w.regs.items) × (w.symbol + (reg_at w.regs.items k).symbol ≡ symbol)
+    × ((reg_at w.regs.items k).block ≡ block)
 has_from w symbol block e =
     let (k, r, within, here, is) = Any-from_list_any (stands w.symbol symbol block) w.regs.items e in
     let parts = and_parts (w.symbol + r.symbol == symbol) (r.block == block) is in
@@ -43,7 +44,8 @@ shares_from a b e =
     let (k, r, within, here, is) = Any-from_list_any (λ (x : Reg). has_reg b (a.symbol + x.symbol) x.block) a.regs.items e in
     let P : Reg → Type 0 = λ x. has_reg b (a.symbol + x.symbol) x.block ≡ true in
     let one = reg_at a.regs.items k in
-    let (j, inside, symbol_is, block_is) = has_from b (a.symbol + one.symbol) one.block (subst P (at_place a.regs.items k r within here) is) in
+    let (j, inside, symbol_is, block_is) = has_from b (a.symbol + one.symbol) one.block
+    (subst P (at_place a.regs.items k r within here) is) in
     record { reg = k; other = j; within = within; other_within = inside; symbol = sym symbol_is; block = sym block_is }
 
 shares_to : (a b : Watch) → SharesReg a b → shares_reg a b ≡ true
@@ -52,5 +54,6 @@ shares_to a b h =
     list_any_at (λ (x : Reg). has_reg b (a.symbol + x.symbol) x.block) a.regs.items h.reg nowhere h.within
     (has_to b (a.symbol + one.symbol) one.block h.other h.other_within (sym h.symbol) (sym h.block))
 
+-- the test tells whether two watches share a REG
 pub tells_shared_regs : TellsSharedRegs
 tells_shared_regs a b = (shares_from a b, shares_to a b)

@@ -1,61 +1,90 @@
 -- A watch from its parts.
-use Rattle.std.proofs.Common.{◌≡◌, ℕ, ◌+◌, ◌*◌, ◌<◌, ◌≤◌, List, ◌++◌, ◌∷◌, [], Option, map, take, length, get_or, sym, ◌∙◌, ap, arith}
+use Rattle.std.proofs.Common.{◌≡◌, ℕ, ◌+◌, ◌*◌, ◌<◌, ◌≤◌, Bool, true, false, cond, ◌==◌, List, ◌++◌, ◌∷◌, [], Option, Some, None}
+use Rattle.std.proofs.Common.{map, take, length, get_or, refl, sym, ◌∙◌, ap, arith}
+use Rattle.std.proofs.lemmas.Bool.{eqb-true}
 use Rattle.std.specs.List.{flat_map}
-use Rattle.std.proofs.lemmas.List.{take_all, take_more, append-nil}
+use Rattle.std.proofs.lemmas.List.{take_all, take_more, append-nil, append_assoc, map-append}
 use Rattle.std.proofs.lemmas.Grind.{flat_map-append}
-use Rattle.arrayvec.specs.ArrayVec.{ArrayVec}
 use Rattle.rrc_settings.specs.declared.settings.RawCell.{RawCell}
 use Rattle.rrc_settings.specs.declared.settings.Handset.{Handset}
 use Rattle.rrc_settings.specs.declared.settings.SearchSet.{SearchSet}
-use Rattle.rrc_settings.specs.declared.settings.SetKind.{SetKind}
 use Rattle.dci_fields.specs.declared.rows.FieldRow.{FieldRow}
 use Rattle.dci_fields.specs.declared.sizes.Sizes.{Sizes}
-use Rattle.coreset_map.specs.declared.places.Reg.{Reg}
-use Rattle.coreset_map.specs.Candidates.{candidate_regs}
-use Rattle.coreset_map.specs.ResourcesOfCell.{resources_in}
+use Rattle.dci_fields.specs.FormatRows.{rows_of}
+use Rattle.dci_fields.specs.FittedRows.{fitted}
 use Rattle.monitor_budget.specs.declared.candidates.Candidate.{Candidate}
-use Rattle.monitor_budget.specs.Counts.{set_at, coreset_of, candidates_of, scrambling_of}
+use Rattle.monitor_budget.specs.declared.space.Space.{Space}
+use Rattle.monitor_budget.specs.Counts.{candidates_of}
+use Rattle.rrc_settings.specs.HandsetsOfCell.{no_set, set_at}
+use Rattle.monitor_budget.specs.Spaces.{space_of}
+use Rattle.monitor_plan.specs.declared.set_formats.SetFormats.{SetFormats}
 use Rattle.monitor_plan.specs.declared.watch.Watch.{Watch}
-use Rattle.monitor_plan.specs.Watches.{up_list, down_list, reference_id, watch_of, set_watches, watches_of}
+use Rattle.monitor_plan.specs.SetFormats.{fields_at, formats_of, sized_list, watch_in}
+use Rattle.monitor_plan.specs.Watches.{list_at, up_list}
+use Rattle.dci_fields.specs.FormatsOfSets.{up_format, down_format, up_size, down_size, widths_in}
+use Rattle.monitor_plan.specs.Watches.{watch_of, set_watches, watches_of}
 
-abbrev made : Candidate → ℕ → SetKind → Option (List FieldRow) → Option (List FieldRow) → ArrayVec Reg → ℕ → ℕ → ℕ → Watch
-made c set kind up down regs dmrs_id scramble rnti = record {
-  set = set;
-  kind = kind;
-  symbol = c.symbol;
-  level = c.level;
-  candidate = c.candidate;
-  size = c.size;
-  up = up;
-  down = down;
-  regs = regs;
-  dmrs_id = dmrs_id;
-  scramble = scramble;
-  rnti = rnti;
-}
+-- a list that is fitted once is the list at each size
+fields_are_at : (own : Option ℕ) (rows : List FieldRow) (size : ℕ) → fields_at (sized_list own rows) size ≡ list_at own rows size
+fields_are_at None rows size = refl
+fields_are_at (Some own) rows size = by (own == size) refl
+  where
+    by : (b : Bool) → (own == size) ≡ b → cond b (Some (fitted rows own)) None ≡ cond b (Some (fitted rows size)) None
+    by true e = ap (λ (n : ℕ). there (fitted rows n)) (eqb-true own size e)
+      where
+        there : List FieldRow → Option (List FieldRow)
+        there xs = Some xs
+    by false e = refl
 
-pub watch-made : (cell : RawCell) (h : Handset) (sizes : Sizes) (s : SearchSet) (c : Candidate) (of : SearchSet) (one : Handset)
-    (up down : Option (List FieldRow)) (regs : ArrayVec Reg) (dmrs_id scramble : ℕ) → of ≡ s → one ≡ h
-    → up ≡ up_list cell h sizes s.kind c.size → down ≡ down_list cell h sizes s.kind c.size
-    → regs.items ≡ candidate_regs (resources_in cell.cell h.downlink.start (coreset_of h s)) c.start c.level
-    → dmrs_id ≡ reference_id cell h s → scramble ≡ scrambling_of cell h s
-    → made c of.number of.kind up down regs dmrs_id scramble one.rnti ≡ watch_of cell h sizes s c
+-- the code's watch of a candidate is the watch
+pub watch_is_in : (cell : RawCell) (h : Handset) (sizes : Sizes) (s : SearchSet) (c : Candidate)
+    → watch_in (space_of cell h s) (formats_of cell h sizes s.kind) c ≡ watch_of cell h sizes s c
 unfolding watch_of
-watch-made cell h sizes s c of one up down regs dmrs_id scramble e f u d r i g =
-    let rs : ArrayVec Reg = record { items = candidate_regs (resources_in cell.cell h.downlink.start (coreset_of h s)) c.start c.level } in
-    let ul = up_list cell h sizes s.kind c.size in
-    let dl = down_list cell h sizes s.kind c.size in
-    ap (λ (x : SearchSet). made c x.number x.kind up down regs dmrs_id scramble one.rnti) e
-    ∙ ap (λ (x : Handset). made c s.number s.kind up down regs dmrs_id scramble x.rnti) f
-    ∙ ap (λ (x : Option (List FieldRow)). made c s.number s.kind x down regs dmrs_id scramble h.rnti) u
-    ∙ ap (λ (x : Option (List FieldRow)). made c s.number s.kind ul x regs dmrs_id scramble h.rnti) d
-    ∙ ap (λ (x : List Reg). made c s.number s.kind ul dl (record { items = x }) dmrs_id scramble h.rnti) r
-    ∙ ap (λ (x : ℕ). made c s.number s.kind ul dl rs x scramble h.rnti) i
-    ∙ ap (λ (x : ℕ). made c s.number s.kind ul dl rs (reference_id cell h s) x h.rnti) g
+watch_is_in cell h sizes s c =
+    let with_lists : Option (List FieldRow) → Option (List FieldRow) → Watch =
+    λ up down. record (watch_in (space_of cell h s) (formats_of cell h sizes s.kind) c) { up = up; down = down } in
+    let up = fields_are_at (up_size sizes s.kind) (rows_of cell h (up_format s.kind) (widths_in sizes s.kind)) c.size in
+    let down = fields_are_at (down_size sizes s.kind) (rows_of cell h (down_format s.kind) (widths_in sizes s.kind)) c.size in
+    ap (λ (x : Option (List FieldRow)). with_lists x (fields_at (formats_of cell h sizes s.kind).down c.size)) up
+    ∙ ap (λ (x : Option (List FieldRow)). with_lists (up_list cell h sizes s.kind c.size) x) down
+
+-- the set with all that its search needs, as the code finds it
+pub space_found : (cell : RawCell) (h owner : Handset) (place : ℕ) (sets : List SearchSet) (space : Space) → owner ≡ h
+    → sets ≡ owner.sets.items
+    → space ≡ space_of cell owner (get_or sets place no_set) → space ≡ space_of cell h (set_at h place)
+space_found cell h owner place sets space e f g =
+    g ∙ ap (λ (xs : List SearchSet). space_of cell owner (get_or xs place no_set)) f
+    ∙ ap (λ (x : Handset). space_of cell x (set_at x place)) e
+
+-- and so is one that the code makes of what it found
+watch-made : (cell : RawCell) (h : Handset) (sizes : Sizes) (s : SearchSet) (c : Candidate) (space : Space)
+    (formats : SetFormats) (w : Watch)
+    → space ≡ space_of cell h s → formats ≡ formats_of cell h sizes s.kind → w ≡ watch_in space formats c
+    → w ≡ watch_of cell h sizes s c
+watch-made cell h sizes s c space formats w e f g =
+    g ∙ ap (λ (x : Space). watch_in x formats c) e ∙ ap (λ (x : SetFormats). watch_in (space_of cell h s) x c) f
+    ∙ watch_is_in cell h sizes s c
+
+-- one watch of a set more
+pub one_watch_more : (cell : RawCell) (h : Handset) (sizes : Sizes) (s : SearchSet) (candidates : List Candidate)
+    (before now next : List Watch)
+    (i : ℕ) (c : Candidate) (space : Space) (formats : SetFormats) (w : Watch) → i < length candidates
+    → space ≡ space_of cell h s → formats ≡ formats_of cell h sizes s.kind → w ≡ watch_in space formats (get_or candidates i c)
+    → now ≡ before ++ map (watch_of cell h sizes s) (take i candidates) → next ≡ now ++ w ∷ []
+    → next ≡ before ++ map (watch_of cell h sizes s) (take (i + 1) candidates)
+one_watch_more cell h sizes s candidates before now next i c space formats w l e f g k n =
+    let each = watch_of cell h sizes s in
+    let here = watch-made cell h sizes s (get_or candidates i c) space formats w e f g in
+    n ∙ ap (λ ws. ws ++ w ∷ []) k ∙ append_assoc before (map each (take i candidates)) (w ∷ [])
+    ∙ ap (λ x. before ++ (map each (take i candidates) ++ x ∷ [])) here
+    ∙ ap (λ ws. before ++ ws) (sym (map-append each (take i candidates) (get_or candidates i c ∷ [])))
+    ∙ ap (λ cs. before ++ map each cs) (sym (take_more candidates i c l))
 
 -- all watches of a set
-pub set-made : (cell : RawCell) (h : Handset) (sizes : Sizes) (s : SearchSet) (candidates : List Candidate) (before now : List Watch) (i : ℕ)
-    → candidates ≡ candidates_of cell h sizes s → length candidates ≤ i → now ≡ before ++ map (watch_of cell h sizes s) (take i candidates)
+pub set-made : (cell : RawCell) (h : Handset) (sizes : Sizes) (s : SearchSet) (candidates : List Candidate)
+    (before now : List Watch) (i : ℕ)
+    → candidates ≡ candidates_of cell h sizes s → length candidates ≤ i
+    → now ≡ before ++ map (watch_of cell h sizes s) (take i candidates)
     → now ≡ before ++ set_watches cell h sizes s
 unfolding set_watches
 set-made cell h sizes s candidates before now i e l h' =
@@ -66,16 +95,18 @@ pub record ArePushed (cell : RawCell) (h : Handset) (sizes : Sizes) (places : Li
   pub watches : now ≡ watches_of cell h sizes places
   pub few : length now ≤ 1120 * n
 
+-- no watches of no sets
 pub watches-none : (cell : RawCell) (h : Handset) (sizes : Sizes) (now : List Watch) → now ≡ [] → ArePushed cell h sizes [] 0 now
 unfolding watches_of
 watches-none cell h sizes now e = record { watches = e; few = omega (arith, ap length e) }
 
 -- the watches of one set more
-pub watches-more : (cell : RawCell) (h : Handset) (sizes : Sizes) (places : List ℕ) (i : ℕ) (now next : List Watch) → i < length places
+pub watches_more : (cell : RawCell) (h : Handset) (sizes : Sizes) (places : List ℕ) (i : ℕ) (now next : List Watch)
+    → i < length places
     → ArePushed cell h sizes (take i places) i now → next ≡ now ++ set_watches cell h sizes (set_at h (get_or places i 0))
     → length next ≤ length now + 1120 → ArePushed cell h sizes (take (i + 1) places) (i + 1) next
 unfolding watches_of
-watches-more cell h sizes places i now next l e f short =
+watches_more cell h sizes places i now next l e f short =
     let each : ℕ → List Watch = λ p. set_watches cell h sizes (set_at h p) in
     record {
       watches =

@@ -1,4 +1,5 @@
 pub mod Watch
 pub mod Watches
+pub mod SetFormats
 pub mod Planned
 pub mod Equality

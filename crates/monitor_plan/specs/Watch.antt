@@ -1,25 +1,19 @@
 -- A watch of a handset: the formats that fit it, their fields, and what each watch of a plan keeps.
-use Rattle.std.specs.Prelude.{◌≡◌, ◌↔◌, ◌==◌, ℕ, ◌+◌, ◌*◌, ◌^◌, ◌<◌, ◌≤◌, Bool, true, false, ◌&&◌, List, [], ◌∷◌, None, is_some, unwrap_or, length, IfSome, IsTrue, All, slice_index_or}
+use Rattle.std.specs.Prelude.{◌≡◌, ◌↔◌, ◌==◌, ℕ, ◌+◌, ◌*◌, ◌^◌, ◌<◌, ◌≤◌, Bool, true, ◌&&◌, List, [], None, is_some}
+use Rattle.std.specs.Prelude.{unwrap_or, length, IfSome, IsTrue, All, slice_index_or}
 use Rattle.std.specs.List.{list_any}
-use Rattle.rrc_settings.specs.declared.settings.SetKind.{SetKind}
 use Rattle.rrc_settings.specs.declared.settings.SetKind.TheVariants as kinds
 use Rattle.rrc_settings.specs.AggregationLevels.{is_level}
-use Rattle.rrc_settings.specs.Conflicts.{is_specific}
+use Rattle.rrc_settings.specs.SetKinds.{is_specific}
 use Rattle.dci_fields.specs.declared.formats.Format.{Format}
 use Rattle.dci_fields.specs.declared.formats.Format.TheVariants.{F00, F10, Order, F01, F11}
-use Rattle.dci_fields.specs.declared.names.FieldName.TheVariants as names
 use Rattle.dci_fields.specs.declared.rows.FieldRow.{FieldRow}
 use Rattle.dci_fields.specs.FieldLists.{width_of, IsFieldList}
-use Rattle.dci_fields.specs.FittedRows.{order_of}
+use Rattle.dci_fields.specs.FittedRows.{order_of, HasRoomForOrder}
+use Rattle.dci_fields.specs.FormatsOfSets.{is_for_fallback}
 use Rattle.coreset_map.specs.declared.places.Reg.{Reg}
 use Rattle.coreset_map.specs.RegOrder.{reg_at, AreRegs}
 use Rattle.monitor_plan.specs.declared.watch.Watch.{Watch}
-
--- whether a kind of set is for the formats of fallback
-abbrev pub is_for_fallback : SetKind → Bool
-is_for_fallback kinds.Common = true
-is_for_fallback kinds.Fallback = true
-is_for_fallback kinds.Specific = false
 
 -- whether a format fits a watch: its set is for the format, and the format has the watch's size there
 abbrev pub fits : Watch → Format → Bool
@@ -36,13 +30,6 @@ list_of w F10 = unwrap_or w.down []
 list_of w Order = order_of (unwrap_or w.down [])
 list_of w F01 = unwrap_or w.up []
 list_of w F11 = unwrap_or w.down []
-
--- a list of fields begins with the identifier and the frequency assignment, which leave room for 27 bits: those of an order
-abbrev pub HasRoomForOrder : ℕ → List FieldRow → Type 0
-HasRoomForOrder size [] = ⊥
-HasRoomForOrder size (first ∷ []) = ⊥
-HasRoomForOrder size (first ∷ second ∷ rest) =
-    (first.name ≡ names.Identifier) × (second.name ≡ names.Fdra) × (first.width + second.width + 27 ≤ size)
 
 -- what a watch keeps that carries a payload of any content, of 12 to 128 bits that its CCEs have room for with their parity
 pub record IsCarrying (w : Watch) : Type 0 where
@@ -68,7 +55,8 @@ pub record IsSound (w : Watch) : Type 0 where
 -- the REGs of a watch are in the slot, on a carrier of so many blocks
 abbrev pub IsInside : ℕ → Watch → Type 0
 IsInside blocks w =
-    (j : ℕ) → j < length w.regs.items → (w.symbol + (reg_at w.regs.items j).symbol < 14) × ((reg_at w.regs.items j).block < blocks)
+    (j : ℕ) → j < length w.regs.items
+    → (w.symbol + (reg_at w.regs.items j).symbol < 14) × ((reg_at w.regs.items j).block < blocks)
 
 -- whether a watch has the REG of the slot in this symbol and block
 abbrev pub has_reg : Watch → ℕ → ℕ → Bool
@@ -117,7 +105,8 @@ abbrev pub AreAlike : List Watch → Type 0
 AreAlike watches =
     (i j : ℕ) (format : Format) → i < length watches → j < length watches → (watch_at watches i).set ≡ (watch_at watches j).set
     → IsTrue (fits (watch_at watches i) format) → IsTrue (fits (watch_at watches j) format)
-    → (list_of (watch_at watches i) format ≡ list_of (watch_at watches j) format) × ((watch_at watches i).size ≡ (watch_at watches j).size)
+    → (list_of (watch_at watches i) format ≡ list_of (watch_at watches j) format)
+    × ((watch_at watches i).size ≡ (watch_at watches j).size)
 
 -- what the watches of a plan keep; they are few: of ten sets at most, each with eight candidates at most at each of 14 symbols
 -- and five levels, and in two sizes at most

@@ -1,7 +1,7 @@
 //! The formats of a kind of set, their sizes and what decides their widths.
 ghost use Rattle.std.specs.Prelude.{◌≡◌, true, Some, is_some};
-ghost use Rattle.monitor_plan.specs.Watch.{fits, is_for_fallback, list_of, IsSound};
-ghost use Rattle.monitor_plan.specs.Watches.{down_format, down_size, up_format, up_size, widths_in};
+ghost use Rattle.monitor_plan.specs.Watch.{fits, list_of, IsSound};
+ghost use Rattle.dci_fields.specs.FormatsOfSets.{is_for_fallback, down_format, down_size, up_format, up_size, widths_in};
 
 use crate::Watch;
 use dci_fields::{FieldList, Format, Sizes, Widths, order_list};
@@ -28,26 +28,31 @@ impl Watch {
         ensures { result ≡ list_of self.now format }
     {
         match format {
-            Format::F00 => copy_of(&self.up),
-            Format::F10 => copy_of(&self.down),
-            Format::Order => order_list(&copy_of(&self.down)),
-            Format::F01 => copy_of(&self.up),
-            Format::F11 => copy_of(&self.down),
+            Format::F00 | Format::F01 => copy_there(&self.up),
+            Format::F10 | Format::F11 => copy_there(&self.down),
+            Format::Order => order_list(&copy_there(&self.down)),
         }
     }
 }
 
-/// A copy of the list, where there is one.
-fn copy_of(list: &Option<FieldList>) -> FieldList
+/// A copy of the list that is there.
+fn copy_there(list: &Option<FieldList>) -> FieldList
     requires { is_some list.now ≡ true }
     ensures { list.now ≡ Some result }
 {
     match list {
-        Some(list) => match list.clone() {
-            Ok(copy) => copy,
-            Err(_) => unreachable!(),
-        },
+        Some(list) => copy_of(list),
         None => unreachable!(),
+    }
+}
+
+/// A copy of a list, which takes no memory.
+pub(crate) fn copy_of(list: &FieldList) -> FieldList
+    ensures { result ≡ list.now }
+{
+    match list.clone() {
+        Ok(copy) => copy,
+        Err(_) => unreachable!(),
     }
 }
 
@@ -55,11 +60,7 @@ fn copy_of(list: &Option<FieldList>) -> FieldList
 fn is_for_fallback(kind: SetKind) -> bool
     ensures { result ≡ is_for_fallback kind }
 {
-    match kind {
-        SetKind::Common => true,
-        SetKind::Fallback => true,
-        SetKind::Specific => false,
-    }
+    kind != SetKind::Specific
 }
 
 /// The uplink format of a kind of set.
@@ -67,8 +68,7 @@ pub(crate) fn up_format(kind: SetKind) -> Format
     ensures { result ≡ up_format kind }
 {
     match kind {
-        SetKind::Common => Format::F00,
-        SetKind::Fallback => Format::F00,
+        SetKind::Common | SetKind::Fallback => Format::F00,
         SetKind::Specific => Format::F01,
     }
 }
@@ -78,8 +78,7 @@ pub(crate) fn down_format(kind: SetKind) -> Format
     ensures { result ≡ down_format kind }
 {
     match kind {
-        SetKind::Common => Format::F10,
-        SetKind::Fallback => Format::F10,
+        SetKind::Common | SetKind::Fallback => Format::F10,
         SetKind::Specific => Format::F11,
     }
 }

@@ -1,12 +1,13 @@
-//! The plan of a handset in a slot: where it looks for downlink control information, and for which formats (3GPP TS 38.213, 10.1).
+//! The plan of a handset in a slot: where it looks for downlink control information, and for which formats (3GPP TS
+//! 38.213, 10.1).
 #![tactic(auto)]
 
 mod formats;
 pub mod laws;
-mod lists;
-mod making;
 mod plan;
 mod same;
+mod set_formats;
+mod set_watches;
 mod watch;
 
 pub use plan::{Plan, PlanFault};

@@ -7,7 +7,7 @@ ghost use Rattle.monitor_plan.specs.Watches.{watches_of};
 ghost use Rattle.monitor_plan.specs.Planned.{over_by, planned};
 
 use crate::Watch;
-use crate::making::push_set;
+use crate::set_watches::push_set;
 use dci_fields::Sizes;
 use monitor_budget::allot;
 use rrc_settings::Cell;
@@ -56,7 +56,8 @@ impl Plan {
         requires frame { frame ≤ 1023 }
         requires slot { slot < 10 * 2 ^ cell.now.mu }
         ensures planned { IfOk result (λ plan. planned cell.now handset frame slot ≡ Ok plan) }
-        ensures over { (candidates cces : ℕ) → (result ≡ Err (PlanFault.CommonOver candidates cces)) ↔ (planned cell.now handset frame slot ≡ Err (over_by candidates cces)) }
+        ensures over { (candidates cces : ℕ) → (result ≡ Err (PlanFault.CommonOver candidates cces))
+            ↔ (planned cell.now handset frame slot ≡ Err (over_by candidates cces)) }
         ensures inside { IfOk result (λ plan. All (IsInside cell.now.blocks) plan) }
     {
         let _settings = cell.raw();
@@ -95,7 +96,8 @@ fn watches_of(
     requires handset { handset < length cell.now.handsets }
     requires places { All (λ place. place < length (handset_at cell.now handset).sets.items) places.now }
     requires sizes { sizes.now ≡ sizes_of cell.now (handset_at cell.now handset) }
-    ensures watches { IfOk result (λ watches. watches.items ≡ watches_of cell.now (handset_at cell.now handset) sizes.now places.now) }
+    ensures watches { IfOk result (λ watches. watches.items
+        ≡ watches_of cell.now (handset_at cell.now handset) sizes.now places.now) }
     ensures few { IfOk result (λ watches. length watches.items ≤ 1120 * length places.now) }
 {
     let mut watches = Vec::new(alloc);

@@ -6,16 +6,17 @@ use Rattle.std.proofs.lemmas.Nat.{mod_below, div-add-mod', same_from_place}
 use Rattle.rrc_settings.specs.declared.settings.SearchSet.{SearchSet}
 use Rattle.search_starts.specs.Calendar.{is_monitored}
 
-passed_is : (t offset period n i : ℕ) → offset < period → i < period → t + period ≡ offset + n * period + i → (t + period - offset) % period ≡ i
+passed_is : (t offset period n i : ℕ) → offset < period → i < period → t + period ≡ offset + n * period + i
+    → (t + period - offset) % period ≡ i
 passed_is t offset period n i h l e =
     let m = t + period - offset in
     let d = div-add-mod' m period in
     (same_from_place (m / period) (m % period) n i period (mod_below m period (omega (arith, h))) l (omega (arith, d, e, h))).1
 
 -- the slots of a period in which a set is monitored
-pub from-offsets : (set : SearchSet) (t : ℕ) → 1 ≤ set.period → set.offset < set.period → set.duration ≤ set.period
+pub from_offsets : (set : SearchSet) (t : ℕ) → 1 ≤ set.period → set.offset < set.period → set.duration ≤ set.period
     → (is_monitored set t ≡ true) ↔ ((n i : ℕ) × (i < set.duration) × (t + set.period ≡ set.offset + n * set.period + i))
-from-offsets set t some before short =
+from_offsets set t some before short =
     let m = t + set.period - set.offset in
     let d = div-add-mod' m set.period in (
       λ h. (m / set.period, m % set.period, ltb-true (m % set.period) set.duration h, omega (arith, d, before)),

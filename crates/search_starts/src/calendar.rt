@@ -6,7 +6,8 @@ use rrc_settings::SearchSet;
 
 /// Whether the set is monitored in a slot of a frame: in the first slots of each of its periods, which begin at its offset.
 ///
-/// `mu` is at most 3, `frame` at most 1,023 and `slot` below `10 * 2^mu`. The period of the set is at least 1 and its offset below it.
+/// `mu` is at most 3, `frame` at most 1,023 and `slot` below `10 * 2^mu`. The period of the set is at least 1 and its
+/// offset below it.
 pub fn is_monitored(set: &SearchSet, mu: u16, frame: u16, slot: u16) -> bool
     requires mu { mu ≤ 3 }
     requires frame { frame ≤ 1023 }

@@ -1,2 +1,2 @@
-pub mod FourSizes
 pub mod SizesDiffer
+pub mod FittingSizes

@@ -34,34 +34,11 @@ fn is_one_of_kind(sets: &[SearchSet], kind: SetKind) -> bool
     ensures { result ≡ list_any (λ set. same_kind set.kind kind) sets.now }
 {
     for set in sets {
-        if is_same_kind(set.kind, kind) {
+        if set.kind == kind {
             return true;
         }
     }
     false
-}
-
-/// Whether two kinds of set are the same.
-fn is_same_kind(one: SetKind, other: SetKind) -> bool
-    ensures { result ≡ same_kind one other }
-{
-    match one {
-        SetKind::Common => match other {
-            SetKind::Common => true,
-            SetKind::Fallback => false,
-            SetKind::Specific => false,
-        },
-        SetKind::Fallback => match other {
-            SetKind::Common => false,
-            SetKind::Fallback => true,
-            SetKind::Specific => false,
-        },
-        SetKind::Specific => match other {
-            SetKind::Common => false,
-            SetKind::Fallback => false,
-            SetKind::Specific => true,
-        },
-    }
 }
 
 /// A size, where some set monitors it.

@@ -4,7 +4,7 @@ use Rattle.dci_fields.specs.Payloads.{is_allowed}
 use Rattle.dci_fields.specs.declared.names.FieldName.TheVariants as names
 use Rattle.dci_fields.specs.declared.rows.FieldRow.{FieldRow}
 use Rattle.dci_fields.proofs.GivenLists.{narrow_at, settled_value-fits}
-use Rattle.dci_fields.proofs.RowPacking.{one_more_packed, next_within, packed_whole, settled_value-lt}
+use Rattle.dci_fields.proofs.RowPacking.{one_more_packed, next_within, packed_whole, settled_value_lt}
 use Rattle.dci_fields.proofs.packing.pack_rows.Goals as goal
 
 pub settled_value-value-requires : goal.settled_value-value-requires
@@ -15,7 +15,12 @@ settled_value-value-requires c =
 pub overflow_cast-value : goal.overflow_cast-value
 overflow_cast-value c =
     let d : FieldRow = record { name = names.Identifier; width = 0 } in
-    omega (arith, c.settled_value-value.ensures, settled_value-lt c.args.rows.now c.args.format c.args.given.now c.loop-row.row-index d c.requires.list c.loop-row-test.true c.in_ok-check_given.ensures.known)
+    omega (
+      arith,
+      c.settled_value-value.ensures,
+      settled_value_lt c.args.rows.now c.args.format c.args.given.now
+          c.loop-row.row-index d c.requires.list c.loop-row-test.true c.in_ok-check_given.ensures.known,
+    )
 
 pub is_allowed-requires : goal.is_allowed-requires
 is_allowed-requires c =
@@ -30,10 +35,18 @@ append_number-requires c =
       (
         omega arith,
         (
-          omega (arith, next_within c.args.rows.now c.args.format c.args.given.now c.loop-row.row-index c.loop-row.payload d c.loop-row-test.true c.loop-row.invariant, c.requires.width, c.requires.size),
+          omega (
+            arith,
+            next_within c.args.rows.now c.args.format c.args.given.now c.loop-row.row-index c.loop-row.payload d
+                c.loop-row-test.true c.loop-row.invariant,
+            c.requires.width,
+            c.requires.size,
+          ),
           (
             narrow_at c.args.rows.now c.loop-row.row-index d c.requires.list.narrow c.loop-row-test.true,
-            subst P (sym c.settled_value-value.ensures) (settled_value-fits c.args.rows.now c.args.format c.args.given.now c.loop-row.row-index d c.requires.list c.loop-row-test.true c.in_ok-check_given.ensures.known),
+            subst P (sym c.settled_value-value.ensures)
+                (settled_value-fits c.args.rows.now c.args.format c.args.given.now c.loop-row.row-index d c.requires.list
+                c.loop-row-test.true c.in_ok-check_given.ensures.known),
           ),
         ),
       ),
@@ -42,12 +55,17 @@ append_number-requires c =
 pub loop-row-preserved : goal.loop-row-preserved
 loop-row-preserved c =
     let d : FieldRow = record { name = names.Identifier; width = 0 } in
-    one_more_packed c.args.rows.now c.args.format c.args.given.now c.loop-row.row-index c.loop-row.payload c.append_number.new.self d c.loop-row-test.true c.loop-row.invariant
-    (ap (λ (value : ℕ). is_allowed (get_or c.args.rows.now c.loop-row.row-index d).name c.args.format (get_or c.args.rows.now c.loop-row.row-index d).width value) (sym c.settled_value-value.ensures)
+    one_more_packed c.args.rows.now c.args.format c.args.given.now c.loop-row.row-index c.loop-row.payload
+    c.append_number.new.self d c.loop-row-test.true c.loop-row.invariant
+    (ap (λ (value : ℕ). is_allowed (get_or c.args.rows.now c.loop-row.row-index d).name c.args.format
+    (get_or c.args.rows.now c.loop-row.row-index d).width value) (sym c.settled_value-value.ensures)
     ∙ sym c.is_allowed.ensures ∙ c.if-not-is_allowed.false)
-    (c.append_number.ensures ∙ ap (λ (value : ℕ). c.loop-row.payload ++ bits_of (get_or c.args.rows.now c.loop-row.row-index d).width value) c.settled_value-value.ensures)
+    (c.append_number.ensures
+    ∙ ap (λ (value : ℕ). c.loop-row.payload ++ bits_of (get_or c.args.rows.now c.loop-row.row-index d).width value)
+    c.settled_value-value.ensures)
 
 pub returns : goal.returns
 returns c =
-    packed_whole c.args.rows.now c.args.format c.args.given.now c.loop-row.row-index c.args.size c.loop-row.payload c.pad.new.payload c.requires.list
+    packed_whole c.args.rows.now c.args.format c.args.given.now c.loop-row.row-index c.args.size c.loop-row.payload
+    c.pad.new.payload c.requires.list
     c.in_ok-check_given.ensures.known c.loop-row-test.false c.loop-row.auto.row-index-end c.loop-row.invariant c.pad.ensures

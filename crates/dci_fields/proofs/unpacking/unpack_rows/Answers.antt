@@ -9,10 +9,13 @@ returns-in_err-values c =
 
 pub returns-then-is_zero_from : goal.returns-then-is_zero_from
 returns-then-is_zero_from c =
-    carried c.args.rows.now c.args.format c.args.payload.now c.in_ok-values.values c.requires.room c.in_ok-values.ensures.0 c.in_ok-values.ensures.1
-    (ap (λ (place : ℕ). list_all not (drop place c.args.payload.now)) (sym c.requires.width) ∙ sym c.is_zero_from.ensures ∙ c.if-is_zero_from.true)
+    carried c.args.rows.now c.args.format c.args.payload.now c.in_ok-values.values c.requires.room c.in_ok-values.ensures.0
+    c.in_ok-values.ensures.1
+    (ap (λ (place : ℕ). list_all not (drop place c.args.payload.now)) (sym c.requires.width) ∙ sym c.is_zero_from.ensures
+    ∙ c.if-is_zero_from.true)
 
 pub returns-else-is_zero_from : goal.returns-else-is_zero_from
 returns-else-is_zero_from c =
     not_padded c.args.rows.now c.args.format c.args.payload.now
-    (ap (λ (place : ℕ). list_all not (drop place c.args.payload.now)) (sym c.requires.width) ∙ sym c.is_zero_from.ensures ∙ c.if-is_zero_from.false)
+    (ap (λ (place : ℕ). list_all not (drop place c.args.payload.now)) (sym c.requires.width) ∙ sym c.is_zero_from.ensures
+    ∙ c.if-is_zero_from.false)

@@ -1,24 +1,26 @@
 use Rattle.std.proofs.Common.{ℕ, List, length, take, get_or, sym, ap, subst, arith}
 use Rattle.std.proofs.lemmas.List.{take_more}
-use Rattle.rrc_settings.specs.HandsetsOfCell.{handset_at}
 use Rattle.monitor_budget.specs.declared.counted.Counted.{Counted}
 use Rattle.monitor_budget.specs.Tally.{Tallies}
-use Rattle.monitor_budget.proofs.TallyCounts.{tallies-none, tallies-more}
+use Rattle.monitor_budget.proofs.TallyCounts.{tallies_none, tallies_more}
 use Rattle.monitor_budget.proofs.allotment.count_sets.Goals as goal
 
 pub loop-place-init : goal.loop-place-init
 loop-place-init c = record {
-  tally = tallies-none c.args.cell.now (handset_at c.args.cell.now c.args.handset) c.args.sizes.now c.new-tally.result c.new-tally.ensures.seen c.new-tally.ensures.marks;
-  few = let e = ap (λ (xs : List Counted). length xs) c.new-tally.ensures.seen in omega (arith, e);
+  tally = tallies_none c.args.cell.now c.args.handset.now c.args.sizes.now c.args.tally.now c.requires.seen c.requires.marks;
+  few = let e = ap (λ (xs : List Counted). length xs) c.requires.seen in omega (arith, e);
 }
 
 pub loop-place-preserved : goal.loop-place-preserved
 loop-place-preserved c =
-    let h = handset_at c.args.cell.now c.args.handset in
+    let h = c.args.handset.now in
     let l = c.loop-place in
     record {
-      tally = subst (λ (xs : List ℕ). Tallies c.args.cell.now h c.args.sizes.now xs c.count_set.new.tally) (sym (take_more c.args.places.now l.place-index 0 c.loop-place-test.true))
-          (tallies-more c.args.cell.now h c.args.sizes.now (take l.place-index c.args.places.now) (get_or c.args.places.now l.place-index 0) l.tally c.count_set.new.tally
+      tally =
+          subst (λ (xs : List ℕ). Tallies c.args.cell.now h c.args.sizes.now xs c.count_set.new.tally)
+          (sym (take_more c.args.places.now l.place-index 0 c.loop-place-test.true))
+          (tallies_more c.args.cell.now h c.args.sizes.now (take l.place-index c.args.places.now)
+          (get_or c.args.places.now l.place-index 0) l.tally c.count_set.new.tally
           l.invariant.tally c.count_set.ensures.counted c.count_set.ensures.cces);
       few = let a = l.invariant.few in let b = c.count_set.ensures.few in omega (arith, a, b);
     }

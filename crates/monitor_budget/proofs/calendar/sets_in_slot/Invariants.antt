@@ -1,9 +1,8 @@
 use Rattle.std.proofs.Common.{◌≡◌, ◌-◌}
 use Rattle.std.specs.List.{range_with_len, flat_map}
-use Rattle.rrc_settings.specs.HandsetsOfCell.{handset_at}
 use Rattle.monitor_budget.specs.Allotting.{numbered_sets}
 use Rattle.monitor_budget.proofs.calendar.sets_in_slot.Given as goal
 
 abbrev pub invariant-loop-number : goal.invariant-loop-number
 invariant-loop-number l =
-    l.places.items ≡ flat_map (numbered_sets l.cell (handset_at l.cell l.handset) l.common l.frame l.slot) (range_with_len 1 (l.number - 1))
+    l.places.items ≡ flat_map (numbered_sets l.cell l.handset l.common l.frame l.slot) (range_with_len 1 (l.number - 1))

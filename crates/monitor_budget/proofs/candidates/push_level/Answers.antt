@@ -2,7 +2,7 @@ use Rattle.std.proofs.Common.{◌≡◌, ◌++◌, slice_index, refl, ap, ◌∙
 use Rattle.search_starts.specs.Starts.{start_of}
 use Rattle.rrc_settings.specs.AggregationLevels.{level_at}
 use Rattle.monitor_budget.specs.SetCandidates.{numbered_candidates, level_candidates}
-use Rattle.monitor_budget.proofs.Ranges.{pushed_more, pushed_all}
+use Rattle.list_facts.proofs.Ranges.{pushed_more, pushed_all}
 use Rattle.monitor_budget.proofs.Made.{numbered_made}
 use Rattle.monitor_budget.proofs.candidates.push_level.Goals as goal
 
@@ -12,7 +12,8 @@ made : (c : goal.After-push_sizes) → c.push_sizes.new.out.items ≡ c.loop-can
 made c =
     let m = c.loop-candidate.candidate in
     let count = slice_index c.args.set.now.candidates c.args.i in
-    numbered_made c.args.cces c.args.sizes.now c.args.set.now c.args.symbol c.args.i m c.start_cce-start.result (level_at c.args.i)
+    numbered_made c.args.cces c.args.sizes.now c.args.set.now c.args.symbol c.args.i m c.start_cce-start.result
+    (level_at c.args.i)
     c.loop-candidate.out.items c.push_sizes.new.out.items
     (c.start_cce-start.ensures.value
     ∙ ap (λ y. start_of y c.from-in-loop-candidate.result m count c.args.cces) c.from.ensures
@@ -22,13 +23,17 @@ made c =
 pub loop-candidate-preserved : goal.loop-candidate-preserved
 loop-candidate-preserved c = record {
   items = pushed_more (numbered_candidates c.args.cces c.args.sizes.now c.args.set.now c.args.symbol c.args.i)
-      c.args.out.now.items c.loop-candidate.out.items c.push_sizes.new.out.items c.loop-candidate.candidate c.loop-candidate.invariant.items (made c);
-  few = let h = c.loop-candidate.invariant.few in let k = c.push_sizes.ensures.length in let m = c.requires.sizes in omega (arith, h, k, m);
+      c.args.out.now.items c.loop-candidate.out.items c.push_sizes.new.out.items c.loop-candidate.candidate
+      c.loop-candidate.invariant.items (made c);
+  few =
+      let h = c.loop-candidate.invariant.few in let k = c.push_sizes.ensures.length in let m = c.requires.sizes in
+      omega (arith, h, k, m);
 }
 
 pub returns-clause-items : goal.returns-clause-items
 unfolding level_candidates
 returns-clause-items c =
     pushed_all (numbered_candidates c.args.cces c.args.sizes.now c.args.set.now c.args.symbol c.args.i)
-    c.args.out.now.items c.loop-candidate.out.items c.loop-candidate.candidate (slice_index c.args.set.now.candidates c.args.i) c.loop-candidate.invariant.items
+    c.args.out.now.items c.loop-candidate.out.items c.loop-candidate.candidate
+    (slice_index c.args.set.now.candidates c.args.i) c.loop-candidate.invariant.items
     (let h = c.loop-candidate-test.false in let k = c.loop-candidate.auto.candidate-end in omega (arith, h, k))

@@ -1,7 +1,7 @@
 use Rattle.std.proofs.Common.{ap, ◌∙◌, ◌+◌, refl, subst, get_or}
 use Rattle.rrc_settings.specs.ControlGroups.{group_block}
 use Rattle.coreset_map.specs.ControlResources.{Resources, AreResources}
-use Rattle.coreset_map.proofs.Blocks.{block-from}
+use Rattle.coreset_map.proofs.Blocks.{block_from}
 use Rattle.coreset_map.proofs.map.Map.block_at.Goals as goal
 
 pub returns : goal.returns
@@ -12,6 +12,6 @@ returns c =
     let group = c.from-group.result in
     ap (λ block. block + c.from-2.result)
     (c.group_block.ensures ∙ ap (λ (r : Resources). group_block r.start group) c.self.view_is)
-    ∙ (block-from resources c.args.rank group c.from-2.result resources.start r c.requires refl
+    ∙ (block_from resources c.args.rank group c.from-2.result resources.start r c.requires refl
     (c.from-group.ensures ∙ (ap (λ gs. get_or gs c.from.result 0) groups ∙ ap (λ k. get_or resources.groups k 0) c.from.ensures))
     c.from-2.ensures).is

@@ -3,7 +3,7 @@ use Rattle.std.specs.List.{range_with_len}
 use Rattle.std.proofs.lemmas.List.FromFn.{map-range_with_len_more}
 use Rattle.coreset_map.specs.ControlResources.{cce_count}
 use Rattle.coreset_map.specs.Numbers.{placed_reg}
-use Rattle.coreset_map.proofs.SortedRegs.{sorted-listed}
+use Rattle.coreset_map.proofs.SortedRegs.{sorted_listed}
 use Rattle.coreset_map.proofs.map.Map.regs_of_candidate.Goals as goal
 
 pub loop-place-preserved : goal.loop-place-preserved
@@ -29,7 +29,10 @@ returns c =
     let last : l.place ≤ 6 * (c.args.start + c.from.result) = l.auto.place-end (omega arith) in
     let size : length l.regs.items ≡ 6 * c.args.level =
     let e = l.invariant.size in let f = c.from.ensures in let t = c.loop-place-test.false in omega (arith, e, f, t, last) in
-    let q : IsPermutation l.regs.items c.sort_unstable.new.self = subst (λ regs. IsPermutation regs c.sort_unstable.new.self) c.deref_mut.ensures.value c.sort_unstable.ensures.permutation in
-    let h = sorted-listed c.args.self.now c.args.start c.args.level l.regs.items c.sort_unstable.new.self c.cce_count-count.ensures.resources c.requires.cces
+    let q : IsPermutation l.regs.items c.sort_unstable.new.self =
+    subst (λ regs. IsPermutation regs c.sort_unstable.new.self) c.deref_mut.ensures.value
+    c.sort_unstable.ensures.permutation in
+    let h = sorted_listed c.args.self.now c.args.start c.args.level l.regs.items c.sort_unstable.new.self
+    c.cce_count-count.ensures.resources c.requires.cces
     size l.invariant.items q c.sort_unstable.ensures.sorted in
     record { regs = h.are; length = h.long; order = h.order; symbols = h.symbols; blocks = h.blocks }

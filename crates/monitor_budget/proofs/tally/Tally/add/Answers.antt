@@ -15,10 +15,14 @@ loop-candidate-preserved c =
     let i = c.loop-candidate.candidate-index in
     let x = get_or cs i no_candidate in
     record {
-      counted = counted_more c.args.self.now.seen.items c.loop-candidate.self.seen.items c.see.new.seen.items (counted_as c.args.set.now c.args.scramble) cs i
+      counted =
+          counted_more c.args.self.now.seen.items c.loop-candidate.self.seen.items c.see.new.seen.items
+          (counted_as c.args.set.now c.args.scramble) cs i
           no_candidate x c.loop-candidate-test.true refl c.loop-candidate.invariant.counted
-          (subst (λ (y : Counted). AddsCounted c.loop-candidate.self.seen.items c.see.new.seen.items (y ∷ [])) c.counted_as.ensures c.see.ensures.counted);
-      cces = cces_more c.args.self.now.marks c.loop-candidate.self.marks c.set_all.new.self (cces_of_candidate c.args.set.now) cs i
+          (subst (λ (y : Counted). AddsCounted c.loop-candidate.self.seen.items c.see.new.seen.items (y ∷ []))
+          c.counted_as.ensures c.see.ensures.counted);
+      cces =
+          cces_more c.args.self.now.marks c.loop-candidate.self.marks c.set_all.new.self (cces_of_candidate c.args.set.now) cs i
           no_candidate x c.loop-candidate-test.true refl c.loop-candidate.invariant.cces c.set_all.ensures;
       few = let a = c.loop-candidate.invariant.few in let b = c.see.ensures.few in omega (arith, a, b);
     }
