@@ -4,10 +4,11 @@ use Rattle.std.specs.List.{filter_map, range_with_len}
 use Rattle.slot_grid.specs.Grid.{GridValue}
 use Rattle.table_files.specs.declared.tables.Tables.{Tables}
 use Rattle.monitor_plan.specs.declared.watch.Watch.{Watch}
-use Rattle.monitor_plan.specs.Watch.{IsInside, IsSound, watch_at}
+use Rattle.monitor_plan.specs.Watch.{IsSound, watch_at}
 use Rattle.dci_codec.specs.declared.heard.Heard.{Heard}
-use Rattle.dci_codec.specs.Hearing.{AreTables, IsHeard, Spells, heard_at}
+use Rattle.dci_codec.specs.Hearing.{AreTables, IsHeard, Spells}
 use Rattle.dci_codec.specs.Spelling.{Spelling}
+use Rattle.dci_codec.specs.TheSpelling.{heard_at}
 
 -- what is heard at the watch of a number, where the grid spells something there
 abbrev pub heard_in : Tables → GridValue → List Watch → ℕ → Option Heard
@@ -34,7 +35,6 @@ pub record IsReport (tables : Tables) (grid : GridValue) (watches : List Watch) 
 abbrev pub OneReport : Type 0
 OneReport =
     (tables : Tables) (grid : GridValue) (watches : List Watch) (entries : List Heard) → AreTables tables → All IsSound watches
-    → All (IsInside grid.blocks) watches
     → IsReport tables grid watches entries ↔ (entries ≡ report_of tables grid watches)
 
 -- each entry is of one of the watches

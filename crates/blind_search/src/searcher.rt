@@ -3,7 +3,7 @@ ghost use Rattle.std.specs.Prelude.{◌≡◌, ◌<◌, ◌≤◌, [], ◌++◌,
 ghost use Rattle.std.specs.Borrow.{sem};
 ghost use Rattle.std.specs.Option.{option_to_list};
 ghost use Rattle.monitor_plan.specs.Watch.{IsInside, IsSound};
-ghost use Rattle.dci_codec.specs.Hearing.{heard_at};
+ghost use Rattle.dci_codec.specs.TheSpelling.{heard_at};
 ghost use Rattle.blind_search.specs.Report.{AreOfWatches, report_of};
 
 use bits_core::NoMemory;

@@ -1,93 +1,39 @@
--- The test of agreement of a grid with an image tells whether it agrees.
-use Rattle.std.proofs.Common.{◌≡◌, ℕ, ◌*◌, ◌<◌, Bool, true, Option, Some, None, get_or, refl, sym, subst, ◌∙◌, arith}
-use Rattle.std.specs.List.{range_with_len, list_all}
-use Rattle.std.proofs.lemmas.List.FromFn.{length-range_with_len, get_or-range_with_len}
-use Rattle.std.proofs.lemmas.List.Sums.{AllPass-from_list_all, list_all-from_AllPass}
-use Rattle.slot_grid.specs.declared.places.Point.{Point}
-use Rattle.slot_grid.specs.declared.places.Point.TheVariants.{Empty, P00, P01, P10, P11}
-use Rattle.slot_grid.specs.Grid.{GridValue, point_at}
-use Rattle.slot_grid.specs.Image.{Image, Agrees, IsWithin}
-use Rattle.dci_codec.specs.Spelling.{is_point, fits_there, agrees}
+-- The test of a grid at the places of a watch tells whether it agrees with what a block writes there: such an image has no other
+-- places.
+use Rattle.std.proofs.Common.{◌≡◌, ℕ, ◌+◌, ◌*◌, ◌%◌, Bool, true, List, get_or, ap, sym, subst, ◌∙◌, arith}
+use Rattle.std.proofs.lemmas.List.Sums.{list_all-from_AllPass}
+use Rattle.coreset_map.specs.declared.places.Spot.{Spot}
+use Rattle.coreset_map.specs.RegOrder.{reg_at}
+use Rattle.dmrs_qpsk.proofs.ImagesOnGrid.{of_reg}
+use Rattle.monitor_plan.specs.declared.watch.Watch.{Watch}
+use Rattle.slot_grid.specs.Grid.{GridValue}
+use Rattle.slot_grid.specs.Image.{Image, Agrees, agrees_at}
+use Rattle.slot_grid.proofs.Agreements.{point-agrees_at, agrees_at-each}
+use Rattle.table_files.specs.declared.tables.Tables.{Tables}
+use Rattle.dci_codec.specs.BlockImage.{block_image}
+use Rattle.dci_codec.specs.TheSpelling.{has_image}
+use Rattle.dci_codec.specs.WatchPlaces.{places}
+use Rattle.dci_codec.proofs.Carriers.{image_is, sent}
+use Rattle.dci_codec.proofs.PlacesByNumber.{place_passes}
 
--- a test that each number below n passes
-all_below : (test : ℕ → Bool) (n : ℕ) → list_all test (range_with_len 0 n) ≡ true → (i : ℕ) → i < n → test i ≡ true
-all_below test n e i h =
-    let P : ℕ → Type 0 = λ k. test k ≡ true in
-    let at : get_or (range_with_len 0 n) i 0 ≡ i = get_or-range_with_len 0 n i 0 h ∙ omega arith in
-    subst P at (AllPass-from_list_all test (range_with_len 0 n) e i 0 (omega (arith, h, length-range_with_len 0 n)))
+-- a grid that agrees with an image passes at each place
+pub has_image_from : (grid : GridValue) (w : Watch) (image : Image) → Agrees grid image → has_image grid w image ≡ true
+unfolding has_image
+has_image_from grid w image h =
+    list_all-from_AllPass (λ (place : Spot). agrees_at grid image place.symbol place.subcarrier) (places w)
+    (λ i d l. agrees_at-each grid image (get_or (places w) i d).symbol (get_or (places w) i d).subcarrier h)
 
-below_all : (test : ℕ → Bool) (n : ℕ) → ((i : ℕ) → i < n → test i ≡ true) → list_all test (range_with_len 0 n) ≡ true
-below_all test n f =
-    let P : ℕ → Type 0 = λ k. test k ≡ true in
-    list_all-from_AllPass test (range_with_len 0 n)
-    (λ i d h.
-    let l : i < n = omega (arith, h, length-range_with_len 0 n) in
-    let at : i ≡ get_or (range_with_len 0 n) i d = sym (get_or-range_with_len 0 n i d l ∙ omega arith) in
-    subst P at (f i l))
-
--- two points that pass the test are one
-pub one_point : (p q : Point) → is_point p q ≡ true → q ≡ p
-one_point Empty Empty e = refl
-one_point Empty P00 e = cc
-one_point Empty P01 e = cc
-one_point Empty P10 e = cc
-one_point Empty P11 e = cc
-one_point P00 Empty e = cc
-one_point P00 P00 e = refl
-one_point P00 P01 e = cc
-one_point P00 P10 e = cc
-one_point P00 P11 e = cc
-one_point P01 Empty e = cc
-one_point P01 P00 e = cc
-one_point P01 P01 e = refl
-one_point P01 P10 e = cc
-one_point P01 P11 e = cc
-one_point P10 Empty e = cc
-one_point P10 P00 e = cc
-one_point P10 P01 e = cc
-one_point P10 P10 e = refl
-one_point P10 P11 e = cc
-one_point P11 Empty e = cc
-one_point P11 P00 e = cc
-one_point P11 P01 e = cc
-one_point P11 P10 e = cc
-one_point P11 P11 e = refl
-
-pub own_point : (p : Point) → is_point p p ≡ true
-own_point Empty = refl
-own_point P00 = refl
-own_point P01 = refl
-own_point P10 = refl
-own_point P11 = refl
-
-pub none_some : {X : Type 0} (x : X) → None ≡ Some x → ⊥
-none_some x e = cc
-
-pub some_once : {X : Type 0} (x y : X) → Some x ≡ Some y → x ≡ y
-some_once x y e = cc
-
--- a place fits where its point is the image's
-fits_to : (image : Option Point) (point p : Point) → image ≡ Some p → fits_there image point ≡ true → point ≡ p
-fits_to None point p e h = absurd (none_some p e)
-fits_to (Some wanted) point p e h = one_point wanted point h ∙ some_once wanted p e
-
-fits_from : (image : Option Point) (point : Point) → ((p : Point) → image ≡ Some p → point ≡ p) → fits_there image point ≡ true
-fits_from None point f = refl
-fits_from (Some wanted) point f =
-    let P : Point → Type 0 = λ p. is_point wanted p ≡ true in
-    subst P (sym (f wanted refl)) (own_point wanted)
-
--- the test of agreement tells whether a grid agrees with an image that is on it
-pub agrees_to : (grid : GridValue) (image : Image) → IsWithin grid image → agrees grid image ≡ true → Agrees grid image
-unfolding agrees
-agrees_to grid image within h s c p e =
-    let place = within s c p e in
-    let row = all_below (λ s. list_all (λ c. fits_there (image s c) (point_at grid s c)) (range_with_len 0 (12 * grid.blocks))) 14 h s place.0 in
-    let there = all_below (λ c. fits_there (image s c) (point_at grid s c)) (12 * grid.blocks) row c place.1 in
-    fits_to (image s c) (point_at grid s c) p e there
-
-pub agrees_from : (grid : GridValue) (image : Image) → Agrees grid image → agrees grid image ≡ true
-unfolding agrees
-agrees_from grid image h =
-    below_all (λ s. list_all (λ c. fits_there (image s c) (point_at grid s c)) (range_with_len 0 (12 * grid.blocks))) 14
-    (λ s l. below_all (λ c. fits_there (image s c) (point_at grid s c)) (12 * grid.blocks) (λ c m. fits_from (image s c) (point_at grid s c) (h s c)))
+-- a grid that passes at each place of a watch agrees with what a block writes there
+pub has_image_to : (tables : Tables) (grid : GridValue) (slot : ℕ) (w : Watch) (block : List Bool)
+    → has_image grid w (block_image tables slot w block) ≡ true → Agrees grid (block_image tables slot w block)
+unfolding has_image
+has_image_to tables grid slot w block h s c p e =
+    let image = block_image tables slot w block in
+    let at = of_reg slot w.symbol w.dmrs_id w.regs.items (sent tables w block) s c p
+    (ap (λ (i : Image). i s c) (sym (image_is tables slot w block)) ∙ e) in
+    let reg = reg_at w.regs.items at.reg in
+    let test : Spot → Bool = λ place. agrees_at grid image place.symbol place.subcarrier in
+    let there = place_passes test w at.reg (c % 12) h at.within (omega arith) in
+    let P : ℕ → Type 0 = λ symbol. agrees_at grid image symbol (12 * reg.block + c % 12) ≡ true in
+    let Q : ℕ → Type 0 = λ subcarrier. agrees_at grid image s subcarrier ≡ true in
+    point-agrees_at grid image s c p (subst Q at.place_is (subst P at.symbol_is there)) e

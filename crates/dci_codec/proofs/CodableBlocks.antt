@@ -7,7 +7,7 @@ use Rattle.polar_sets.proofs.CodableBlocks.{enough_108, enough_216, enough_432, 
 use Rattle.monitor_plan.specs.declared.watch.Watch.{Watch}
 use Rattle.monitor_plan.specs.Watch.{IsCarrying}
 use Rattle.rrc_settings.specs.AggregationLevels.{is_level}
-use Rattle.rrc_settings.specs.Table.{is_one_of}
+use Rattle.rrc_settings.specs.Numbers.{is_one_of}
 
 -- a number of a list is its first or one of the others
 picked : (P : ℕ → Type 0) (m : ℕ) (ms : List ℕ) (n : ℕ) → is_one_of (m ∷ ms) n ≡ true → P m → (is_one_of ms n ≡ true → P n) → P n
@@ -21,7 +21,8 @@ none_picked : (P : ℕ → Type 0) (n : ℕ) → is_one_of [] n ≡ true → P n
 none_picked P n h = absurd (cc)
 
 -- the block of a watch that carries payloads can be coded
-pub enough_at : (size level : ℕ) → 12 ≤ size → size ≤ 128 → size + 24 ≤ 108 * level → is_level level ≡ true → Enough (size + 24) (108 * level)
+pub enough_at : (size level : ℕ) → 12 ≤ size → size ≤ 128 → size + 24 ≤ 108 * level → is_level level ≡ true
+    → Enough (size + 24) (108 * level)
 enough_at size level h l room is =
     let k : ℕ = size + 24 in
     let least : 36 ≤ k = omega (arith, h) in
@@ -33,6 +34,7 @@ enough_at size level h l room is =
     picked P 8 (16 ∷ []) level c (λ fits. enough_864 k least most) (λ d.
     picked P 16 [] level d (λ fits. enough_1728 k least most) (none_picked P level))))) room
 
+-- the same, where size and level are given as other numbers
 pub enough_by : (w : Watch) (size level : ℕ) → IsCarrying w → size ≡ w.size → level ≡ w.level → Enough (size + 24) (108 * level)
 enough_by w size level carries e f =
     let P : ℕ → Type 0 = λ n. Enough (n + 24) (108 * level) in

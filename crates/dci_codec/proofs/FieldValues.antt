@@ -1,5 +1,6 @@
 -- Every list of fitting values is among all values of the rows.
-use Rattle.std.proofs.Common.{◌≡◌, ℕ, zero, suc, ◌+◌, ◌^◌, ◌<◌, Bool, true, false, cond, nat_lt, List, [], ◌∷◌, Option, Some, length, map, get_or, refl, ap, sym, subst, ◌∙◌, arith}
+use Rattle.std.proofs.Common.{◌≡◌, ℕ, zero, suc, ◌+◌, ◌^◌, ◌<◌, Bool, true, false, cond, nat_lt, List, [], ◌∷◌, Option}
+use Rattle.std.proofs.Common.{Some, length, map, get_or, refl, ap, sym, subst, ◌∙◌, arith}
 use Rattle.std.specs.List.{range_with_len, flat_map, find, Contains}
 use Rattle.std.proofs.lemmas.Bool.{and_parts, ltb-true}
 use Rattle.std.proofs.lemmas.List.{length-map, get_or-map}
@@ -15,7 +16,8 @@ pub mapped : {X Y : Type 0} (f : X → Y) (xs : List X) (x : X) → Contains xs 
 mapped f xs x h = (h.0, omega (arith, length-map xs f, h.1), get_or-map f xs h.0 x (f x) h.1 ∙ ap f h.2)
 
 -- what one number of a range gives is among what the range gives
-from_range : (f : ℕ → List (List ℕ)) (first count at : ℕ) (x : List ℕ) → at < count → Contains (f (first + at)) x → Contains (flat_map f (range_with_len first count)) x
+from_range : (f : ℕ → List (List ℕ)) (first count at : ℕ) (x : List ℕ) → at < count → Contains (f (first + at)) x
+    → Contains (flat_map f (range_with_len first count)) x
 from_range f first zero at x h within = absurd (omega arith)
 from_range f first (suc count) zero x h within =
     let P : ℕ → Type 0 = λ n. Contains (f n) x in
@@ -44,7 +46,8 @@ pub payload_among : (rows : List FieldRow) (format : Format) (values : List ℕ)
     → payload_of rows format values size ≡ Some payload → Contains (all_values rows) values
 payload_among rows format values size payload e = fitting_among rows values (payload_parts rows format values size payload e).fits
 
-chosen : {X : Type 0} (b : Bool) (y x : X) (rest : Option X) → (b ≡ true → y ≡ x) → (b ≡ false → rest ≡ Some x) → cond b (Some y) rest ≡ Some x
+chosen : {X : Type 0} (b : Bool) (y x : X) (rest : Option X) → (b ≡ true → y ≡ x) → (b ≡ false → rest ≡ Some x)
+    → cond b (Some y) rest ≡ Some x
 chosen true y x rest h k = ap (λ z. Some z) (h refl)
 chosen false y x rest h k = k refl
 
@@ -55,7 +58,8 @@ passed test y x ys zero pass fail h e =
 passed test y x ys (suc at) pass fail h e = (at, omega arith, e)
 
 -- a test that one element alone passes finds it
-pub find_only : {X : Type 0} (test : X → Bool) (xs : List X) (x : X) → Contains xs x → test x ≡ true → ((y : X) → test y ≡ true → y ≡ x) → find test xs ≡ Some x
+pub find_only : {X : Type 0} (test : X → Bool) (xs : List X) (x : X) → Contains xs x → test x ≡ true
+    → ((y : X) → test y ≡ true → y ≡ x) → find test xs ≡ Some x
 find_only test [] x h pass only = absurd (omega (arith, h.1))
 find_only test (y ∷ ys) x h pass only =
     chosen (test y) y x (find test ys) (only y) (λ fail. find_only test ys x (passed test y x ys h.0 pass fail h.1 h.2) pass only)

@@ -2,8 +2,9 @@ pub mod Scrambles
 pub mod FieldValues
 pub mod CodableBlocks
 pub mod WatchLists
-pub mod Agreements
 pub mod Carriers
+pub mod PlacesByNumber
+pub mod Agreements
 pub mod Hearings
 pub mod Readings
 pub mod Stages

@@ -1,5 +1,6 @@
 -- What a search finds: the first number of a range that passes a test, or one of a list, where one does.
-use Rattle.std.proofs.Common.{◌≡◌, ℕ, zero, suc, ◌+◌, ◌<◌, ◌≤◌, Bool, true, false, cond, List, [], ◌∷◌, ◌++◌, Option, Some, None, option_map, length, map, inl, inr, refl, ap, subst, ◌∙◌, arith}
+use Rattle.std.proofs.Common.{◌≡◌, ℕ, zero, suc, ◌+◌, ◌<◌, ◌≤◌, Bool, true, false, cond, List, [], ◌∷◌, ◌++◌, Option}
+use Rattle.std.proofs.Common.{Some, None, option_map, length, map, inl, inr, refl, ap, subst, ◌∙◌, arith}
 use Rattle.std.specs.List.{range_with_len, find, All, Contains}
 use Rattle.std.proofs.lemmas.Bool.{cases_lt}
 use Rattle.std.proofs.lemmas.List.Elements.{All-nil, All-cons, All-append, All-map, Contains-append_left, Contains-append_right}
@@ -37,7 +38,8 @@ in_later test first count (Some at) e h = record {
   before = λ i l m. fails_at test first i e l (λ n. h.before i n m);
 }
 
-in_range : (test : ℕ → Bool) (first count : ℕ) (passes : Bool) (later : Option ℕ) → test first ≡ passes → IsSearched test (first + 1) count later
+in_range : (test : ℕ → Bool) (first count : ℕ) (passes : Bool) (later : Option ℕ) → test first ≡ passes
+    → IsSearched test (first + 1) count later
     → IsSearched test first (suc count) (cond passes (Some first) later)
 in_range test first count true later e h = record {
   least = omega arith;
@@ -59,7 +61,8 @@ kept_by_map f true x later = refl
 kept_by_map f false x later = refl
 
 -- a search over what a function gives
-pub find-map : {X Y : Type 0} (test : Y → Bool) (f : X → Y) (xs : List X) → find test (map f xs) ≡ option_map f (find (λ x. test (f x)) xs)
+pub find-map : {X Y : Type 0} (test : Y → Bool) (f : X → Y) (xs : List X)
+    → find test (map f xs) ≡ option_map f (find (λ x. test (f x)) xs)
 find-map test f [] = refl
 find-map test f (x ∷ xs) =
     ap (cond (test (f x)) (Some (f x))) (find-map test f xs) ∙ kept_by_map f (test (f x)) x (find (λ x. test (f x)) xs)
@@ -74,11 +77,13 @@ abbrev pub IsFound : {X : Type 0} → (X → Bool) → List X → Option X → T
 IsFound test xs None = All (λ x. test x ≡ false) xs
 IsFound test xs (Some x) = IsOne test xs x
 
-in_rest : {X : Type 0} (test : X → Bool) (y : X) (ys : List X) (found : Option X) → test y ≡ false → IsFound test ys found → IsFound test (y ∷ ys) found
+in_rest : {X : Type 0} (test : X → Bool) (y : X) (ys : List X) (found : Option X) → test y ≡ false → IsFound test ys found
+    → IsFound test (y ∷ ys) found
 in_rest test y ys None e h = All-cons (λ x. test x ≡ false) y ys e h
 in_rest test y ys (Some x) e h = record { among = Contains-append_right (y ∷ []) ys x h.among; passes = h.passes }
 
-in_list : {X : Type 0} (test : X → Bool) (y : X) (ys : List X) (passes : Bool) (later : Option X) → test y ≡ passes → IsFound test ys later
+in_list : {X : Type 0} (test : X → Bool) (y : X) (ys : List X) (passes : Bool) (later : Option X) → test y ≡ passes
+    → IsFound test ys later
     → IsFound test (y ∷ ys) (cond passes (Some y) later)
 in_list test y ys true later e h = record { among = (0, omega arith, refl); passes = e }
 in_list test y ys false later e h = in_rest test y ys later e h
@@ -95,22 +100,26 @@ bits_among zero [] h = (0, omega arith, refl)
 bits_among zero (bit ∷ bits) h = absurd (omega (arith, h))
 bits_among (suc n) [] h = absurd (omega (arith, h))
 bits_among (suc n) (false ∷ bits) h =
-    Contains-append_left (map (λ (bits : List Bool). false ∷ bits) (all_bits n)) (map (λ (bits : List Bool). true ∷ bits) (all_bits n) ++ []) (false ∷ bits)
+    Contains-append_left (map (λ (bits : List Bool). false ∷ bits) (all_bits n))
+    (map (λ (bits : List Bool). true ∷ bits) (all_bits n) ++ []) (false ∷ bits)
     (mapped (λ (bits : List Bool). false ∷ bits) (all_bits n) bits (bits_among n bits (omega (arith, h))))
 bits_among (suc n) (true ∷ bits) h =
-    Contains-append_right (map (λ (bits : List Bool). false ∷ bits) (all_bits n)) (map (λ (bits : List Bool). true ∷ bits) (all_bits n) ++ []) (true ∷ bits)
+    Contains-append_right (map (λ (bits : List Bool). false ∷ bits) (all_bits n))
+    (map (λ (bits : List Bool). true ∷ bits) (all_bits n) ++ []) (true ∷ bits)
     (Contains-append_left (map (λ (bits : List Bool). true ∷ bits) (all_bits n)) [] (true ∷ bits)
     (mapped (λ (bits : List Bool). true ∷ bits) (all_bits n) bits (bits_among n bits (omega (arith, h)))))
 
 one_longer : (n : ℕ) (bit : Bool) → All (λ (bits : List Bool). length bits ≡ n) (all_bits n)
     → All (λ (bits : List Bool). length bits ≡ suc n) (map (λ (bits : List Bool). bit ∷ bits) (all_bits n))
 one_longer n bit h =
-    All-map (λ (bits : List Bool). length bits ≡ suc n) (λ (bits : List Bool). bit ∷ bits) (all_bits n) (λ k d l. omega (arith, h k d l))
+    All-map (λ (bits : List Bool). length bits ≡ suc n) (λ (bits : List Bool). bit ∷ bits) (all_bits n)
+    (λ k d l. omega (arith, h k d l))
 
 -- and each of them has n bits
 pub length-all_bits : (n : ℕ) → All (λ (bits : List Bool). length bits ≡ n) (all_bits n)
 unfolding all_bits
-length-all_bits zero = All-cons (λ (bits : List Bool). length bits ≡ 0) [] [] refl (All-nil (λ (bits : List Bool). length bits ≡ 0))
+length-all_bits zero =
+    All-cons (λ (bits : List Bool). length bits ≡ 0) [] [] refl (All-nil (λ (bits : List Bool). length bits ≡ 0))
 length-all_bits (suc n) =
     let long : List Bool → Type 0 = λ bits. length bits ≡ suc n in
     let all : List (List Bool) = all_bits n in

@@ -1,40 +1,35 @@
 -- The answer at a watch, stage by stage (3GPP TS 38.211, 7.3.2 and 7.4.1.3.2; 3GPP TS 38.212, 7.3): what is heard, or the stage
 -- that fails first.
-use Rattle.std.specs.Prelude.{◌≡◌, ◌↔◌, ℕ, zero, suc, ◌+◌, ◌-◌, ◌*◌, ◌/◌, ◌%◌, Bool, true, false, not, cond, List, [], ◌∷◌, length, map, Option, Some, None, option_map, Result, Err}
+use Rattle.std.specs.Prelude.{◌≡◌, ◌↔◌, ℕ, zero, suc, ◌+◌, ◌-◌, ◌*◌, ◌/◌, ◌%◌, Bool, true, false, not, cond, List, [], ◌∷◌}
+use Rattle.std.specs.Prelude.{length, map, Option, Some, None, option_map, Result, Err}
 use Rattle.std.specs.Bool.{beq}
 use Rattle.std.specs.Cmp.Lexicographic.{pointwise}
 use Rattle.std.specs.List.{find, flat_map, range_with_len}
 use Rattle.std.specs.Option.{ok_or}
 use Rattle.bits_core.specs.Bits.{bit_of}
-use Rattle.coreset_map.specs.declared.places.Reg.{Reg}
 use Rattle.coreset_map.specs.declared.places.Spot.{Spot}
 use Rattle.coreset_map.specs.DataPlaces.{is_reference}
 use Rattle.crc_mask.specs.Parity.{masked}
 use Rattle.dmrs_qpsk.specs.declared.taking.BadPlace.{BadPlace}
 use Rattle.dmrs_qpsk.specs.declared.taking.Flaw.TheVariants as flaw
+use Rattle.dmrs_qpsk.specs.PointsOnGrid.{reference_rank}
 use Rattle.dmrs_qpsk.specs.ReferencePoints.{reference}
 use Rattle.monitor_plan.specs.declared.watch.Watch.{Watch}
-use Rattle.monitor_plan.specs.Watch.{IsSound, IsInside}
+use Rattle.monitor_plan.specs.Watch.{IsSound}
 use Rattle.polar_chain.specs.CodeOfBlock.{code_by}
 use Rattle.slot_grid.specs.declared.places.Point.{Point}
 use Rattle.slot_grid.specs.declared.places.Point.TheVariants.{Empty, P00, P01, P10, P11}
 use Rattle.slot_grid.specs.Grid.{GridValue, point_at}
+use Rattle.slot_grid.specs.Image.{is_point}
 use Rattle.table_files.specs.declared.tables.Tables.{Tables}
 use Rattle.dci_codec.specs.declared.heard.Heard.{Heard}
 use Rattle.dci_codec.specs.declared.silence.Silence.{Silence}
 use Rattle.dci_codec.specs.declared.silence.Silence.TheVariants as silence
-use Rattle.dci_codec.specs.Hearing.{AreTables, heard_at}
+use Rattle.dci_codec.specs.Hearing.{AreTables}
 use Rattle.dci_codec.specs.Scrambling.{scrambled}
 use Rattle.dci_codec.specs.Silences.{IsAnswer, word_length}
-use Rattle.dci_codec.specs.Spelling.{is_point}
-
--- place k of a REG at a watch: its symbol of the slot, and its subcarrier
-abbrev pub place_of : Watch → Reg → ℕ → Spot
-place_of watch reg k = record { symbol = watch.symbol + reg.symbol; subcarrier = 12 * reg.block + k }
-
--- the places of a watch: REG after REG, and in each its 12 subcarriers
-unfoldable pub places : Watch → List Spot
-places watch = flat_map (λ reg. map (place_of watch reg) (range_with_len 0 12)) watch.regs.items
+use Rattle.dci_codec.specs.TheSpelling.{heard_at}
+use Rattle.dci_codec.specs.WatchPlaces.{places}
 
 -- whether a place is for a reference point
 abbrev pub has_reference : Spot → Bool
@@ -42,7 +37,8 @@ has_reference place = is_reference (place.subcarrier % 12)
 
 -- the reference point of a place
 abbrev pub reference_at : GridValue → Watch → Spot → Point
-reference_at grid watch place = reference grid.slot place.symbol watch.dmrs_id (place.subcarrier / 12) (place.subcarrier % 12 / 4)
+reference_at grid watch place =
+    reference grid.slot place.symbol watch.dmrs_id (place.subcarrier / 12) (reference_rank (place.subcarrier % 12))
 
 -- whether a place is bad: one for a reference point has not this point, or one for data has no point
 abbrev pub is_bad : GridValue → Watch → Spot → Bool
@@ -127,5 +123,5 @@ answer_at tables grid watch number =
 abbrev pub TellsTheAnswer : Type 0
 TellsTheAnswer =
     (tables : Tables) (grid : GridValue) (watch : Watch) (number : ℕ) (answer : Result Heard Silence) → AreTables tables →
-    IsSound watch → IsInside grid.blocks watch →
+    IsSound watch →
     (answer_at tables grid watch number ≡ answer) ↔ IsAnswer tables grid watch number answer

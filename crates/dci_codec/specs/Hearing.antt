@@ -1,5 +1,5 @@
 -- What a grid carries at a watch, what it spells there, and what is heard.
-use Rattle.std.specs.Prelude.{◌≡◌, ◌↔◌, ℕ, Bool, true, List, Option, Some, length, option_map}
+use Rattle.std.specs.Prelude.{◌≡◌, ℕ, Bool, true, List, Some, length}
 use Rattle.crc_mask.specs.Parity.{masked}
 use Rattle.dci_fields.specs.Payloads.{payload_of, shown, Carries}
 use Rattle.slot_grid.specs.Grid.{GridValue}
@@ -7,10 +7,10 @@ use Rattle.slot_grid.specs.Image.{Agrees}
 use Rattle.table_files.specs.declared.tables.Tables.{Tables}
 use Rattle.table_files.specs.Permutation.{IsTable}
 use Rattle.monitor_plan.specs.declared.watch.Watch.{Watch}
-use Rattle.monitor_plan.specs.Watch.{fits, list_of, IsSound, IsInside}
+use Rattle.monitor_plan.specs.Watch.{fits, list_of}
 use Rattle.dci_codec.specs.declared.heard.Heard.{Heard}
 use Rattle.dci_codec.specs.BlockImage.{block_image}
-use Rattle.dci_codec.specs.Spelling.{Spelling, spelled}
+use Rattle.dci_codec.specs.Spelling.{Spelling}
 
 -- both tables are permutations
 abbrev pub AreTables : Tables → Type 0
@@ -32,20 +32,9 @@ pub record Spells (tables : Tables) (grid : GridValue) (watch : Watch) (spelling
   pub packs : payload_of (list_of watch spelling.format) spelling.format spelling.values watch.size ≡ Some payload
   pub agrees : AgreesWith tables grid watch payload
 
--- what is found among all spellings is what the grid spells, so it spells at most one
-abbrev pub FindsWhatIsSpelled : Type 0
-FindsWhatIsSpelled =
-    (tables : Tables) (grid : GridValue) (watch : Watch) (spelling : Spelling) → AreTables tables → IsSound watch →
-    IsInside grid.blocks watch →
-    (spelled tables grid watch ≡ Some spelling) ↔ Spells tables grid watch spelling
-
 -- what is heard of a spelling at the watch of a number: its format, and those of its values that are shown
 abbrev pub heard_of : Watch → ℕ → Spelling → Heard
 heard_of watch number s = record { watch = number; format = s.format; values = shown (list_of watch s.format) s.format s.values }
-
--- what is heard on a grid at the watch of a number, where it spells something there
-abbrev pub heard_at : Tables → GridValue → Watch → ℕ → Option Heard
-heard_at tables grid watch number = option_map (heard_of watch number) (spelled tables grid watch)
 
 -- an entry for the watch of a number has the format and the shown values of what the grid spells there
 pub record IsHeard (tables : Tables) (grid : GridValue) (watch : Watch) (number : ℕ) (heard : Heard) : Type 0 where

@@ -4,6 +4,8 @@ pub mod AllValues
 pub mod Formats
 pub mod Spelling
 pub mod Hearing
+pub mod WatchPlaces
+pub mod TheSpelling
 pub mod Silences
 pub mod Answer
 pub mod Spelled

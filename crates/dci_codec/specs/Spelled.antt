@@ -11,8 +11,9 @@ use Rattle.slot_grid.specs.Grid.{GridValue}
 use Rattle.slot_grid.specs.Image.{overwritten}
 use Rattle.table_files.specs.declared.tables.Tables.{Tables}
 use Rattle.dci_codec.specs.BlockImage.{block_image}
-use Rattle.dci_codec.specs.Hearing.{AreTables, Spells, heard_at, heard_of}
+use Rattle.dci_codec.specs.Hearing.{AreTables, Spells, heard_of}
 use Rattle.dci_codec.specs.Spelling.{Spelling}
+use Rattle.dci_codec.specs.TheSpelling.{heard_at}
 
 -- a format with the settled values of what is given
 abbrev pub spelling_by : Watch → Format → List Given → Spelling
@@ -23,8 +24,6 @@ pub record IsSpelled (tables : Tables) (watch : Watch) (format : Format) (given 
   pub payload : List Bool
   pub packs : payload_of (list_of watch format) format (settled (list_of watch format) format given) watch.size ≡ Some payload
   pub written : new ≡ overwritten (block_image tables old.slot watch (masked payload watch.rnti)) old
-  pub slot : new.slot ≡ old.slot
-  pub blocks : new.blocks ≡ old.blocks
 
 -- the grid on which something was spelled spells it, and its shown values are heard
 abbrev pub HearsWhatWasSpelled : Type 0

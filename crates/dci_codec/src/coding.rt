@@ -11,9 +11,11 @@ use table_files::Tables;
 /// The code of the blocks at a watch: a payload with its parity, in 108 bits a CCE.
 pub fn code_at(tables: &Tables, watch: &Watch) -> Code
     requires { IsCarrying watch.now }
-    ensures tables { IsByTables tables.now.reliability tables.now.input_order (watch.now.size + 24) (108 * watch.now.level) result }
+    ensures tables { IsByTables tables.now.reliability tables.now.input_order
+        (watch.now.size + 24) (108 * watch.now.level) result }
     ensures code { (block : List Bool) →
-        coded result block ≡ code_by tables.now.reliability tables.now.input_order (watch.now.size + 24) (108 * watch.now.level) block }
+        coded result block ≡ code_by tables.now.reliability tables.now.input_order
+        (watch.now.size + 24) (108 * watch.now.level) block }
 {
     Code::of(
         tables,

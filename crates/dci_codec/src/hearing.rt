@@ -7,8 +7,9 @@ ghost use Rattle.monitor_plan.specs.Watch.{fits, list_of, IsCarrying, IsInside, 
 ghost use Rattle.dci_codec.specs.declared.heard.Heard.{Heard};
 ghost use Rattle.dci_codec.specs.declared.silence.Silence.{Silence};
 ghost use Rattle.dci_codec.specs.Answer.{answer_at};
-ghost use Rattle.dci_codec.specs.Hearing.{AreTables, IsHeard, IsReadAs, heard_at};
+ghost use Rattle.dci_codec.specs.Hearing.{AreTables, IsHeard, IsReadAs};
 ghost use Rattle.dci_codec.specs.Silences.{IsAnswer, IsPayloadAnswer, IsSilence};
+ghost use Rattle.dci_codec.specs.TheSpelling.{heard_at};
 
 use crate::coding::code_at;
 use crate::scrambling::scramble;
@@ -94,7 +95,8 @@ const FORMATS: [Format; 5] = [
 fn read(watch: &Watch, number: u32, payload: &Payload) -> Option<Heard>
     requires sound { IsSound watch.now }
     requires size { length payload.now ≡ watch.now.size }
-    ensures { MatchOption result ((h : Heard) → IsReadAs watch.now number payload.now h → ⊥) (IsReadAs watch.now number payload.now) }
+    ensures { MatchOption result ((h : Heard) → IsReadAs watch.now number payload.now h → ⊥)
+        (IsReadAs watch.now number payload.now) }
 {
     for format in FORMATS {
         if watch.fits(format) {

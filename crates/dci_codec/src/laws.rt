@@ -1,8 +1,13 @@
 //! What holds of all spellings and of what is heard: laws over the definitions that the contracts of `spell` and `hear`
 //! name, as the contracts of functions with nothing to do.
 ghost use Rattle.dci_codec.specs.Answer.{TellsTheAnswer};
-ghost use Rattle.dci_codec.specs.Hearing.{FindsWhatIsSpelled};
 ghost use Rattle.dci_codec.specs.Spelled.{HearsWhatWasSpelled};
+ghost use Rattle.dci_codec.specs.TheSpelling.{FindsWhatIsSpelled, TestsWhatIsSpelled};
+
+/// The test of a spelling tells whether the grid spells it, at every watch, be its places on the grid or not.
+pub fn tests_what_is_spelled()
+    ensures { TestsWhatIsSpelled }
+{}
 
 /// What is found among all spellings is exactly what the grid spells, so it spells at most one.
 pub fn finds_what_is_spelled()

@@ -14,6 +14,3 @@ pub use heard::Heard;
 pub use hearing::hear;
 pub use silence::Silence;
 pub use spelling::spell;
-
-#[cfg(test)]
-mod tests;

@@ -46,7 +46,8 @@ pub fn put_payload(tables: &Tables, watch: &Watch, payload: &Payload, grid: &mut
     requires carrying { IsCarrying watch.now }
     requires inside { IsInside grid.old.blocks watch.now }
     requires size { length payload.now ≡ watch.now.size }
-    ensures written { grid.new ≡ overwritten (block_image tables.now grid.old.slot watch.now (masked payload.now watch.now.rnti)) grid.old }
+    ensures written { grid.new ≡ overwritten (block_image tables.now grid.old.slot watch.now
+        (masked payload.now watch.now.rnti)) grid.old }
     ensures slot { grid.new.slot ≡ grid.old.slot }
     ensures blocks { grid.new.blocks ≡ grid.old.blocks }
 {

@@ -1,15 +1,16 @@
 -- Which places the image of bits on REGs has.
-use Rattle.std.proofs.Common.{◌≡◌, ℕ, ◌+◌, ◌*◌, ◌/◌, ◌%◌, ◌<◌, Bool, List, Some, None, option_map, length, inl, inr, refl, sym, ◌∙◌, ap, arith}
+use Rattle.std.proofs.Common.{◌≡◌, ℕ, ◌+◌, ◌*◌, ◌/◌, ◌%◌, ◌<◌, Bool, List, Some, option_map, length, inl, inr, refl}
+use Rattle.std.proofs.Common.{sym, ◌∙◌, ap, arith}
 use Rattle.std.proofs.lemmas.Bool.{cases_lt}
-use Rattle.std.proofs.lemmas.Option.{same_Some}
+use Rattle.std.proofs.lemmas.Option.{none-some, same_Some}
 use Rattle.slot_grid.specs.declared.places.Point.{Point}
 use Rattle.slot_grid.specs.Grid.{GridValue}
-use Rattle.slot_grid.specs.Image.{IsWithin, AreCompatible}
+use Rattle.slot_grid.proofs.Images.{IsWithin, AreCompatible}
 use Rattle.coreset_map.specs.declared.places.Reg.{Reg}
 use Rattle.coreset_map.specs.RegOrder.{reg_at, AreRegs}
-use Rattle.dmrs_qpsk.specs.PointsOnGrid.{reg_point, rank_in, image_of, AreInside}
+use Rattle.dmrs_qpsk.specs.PointsOnGrid.{reg_point, which_reg, image_of, AreInside}
 use Rattle.dmrs_qpsk.proofs.RegPuts.{reg_apart}
-use Rattle.dmrs_qpsk.proofs.Ranks.{rank_cases}
+use Rattle.dmrs_qpsk.proofs.RegNumbers.{reg_cases}
 
 same_reg : (regs : List Reg) (i j : ℕ) → AreRegs regs → i < length regs → j < length regs
     → (reg_at regs i).symbol ≡ (reg_at regs j).symbol → (reg_at regs i).block ≡ (reg_at regs j).block → i ≡ j
@@ -22,14 +23,11 @@ same_reg regs i j apart h l e f =
       ]
     ]
 
-none_some : (p : Point) → None ≡ Some p → ⊥
-none_some p e = cc
-
 -- REG j is the only one of the list in its symbol and block
 pub one_at : (first : ℕ) (regs : List Reg) (j : ℕ) → AreRegs regs → j < length regs
-    → rank_in first regs (first + (reg_at regs j).symbol) (reg_at regs j).block ≡ Some j
+    → which_reg first regs (first + (reg_at regs j).symbol) (reg_at regs j).block ≡ Some j
 one_at first regs j apart h =
-    elim (rank_cases first regs (first + (reg_at regs j).symbol) (reg_at regs j).block) [
+    elim (reg_cases first regs (first + (reg_at regs j).symbol) (reg_at regs j).block) [
       | inl n ↦ absurd (n.apart j h refl refl)
       | inr (i, r) ↦
           let same : i ≡ j = same_reg regs i j apart r.below h (omega (arith, r.symbol_is)) r.block_is in
@@ -48,7 +46,7 @@ image_at slot first id regs bits j k apart h l =
     let block : c / 12 ≡ reg.block = omega arith in
     let place : c % 12 ≡ k = omega arith in
     let point : ℕ → ℕ → ℕ → Point = λ b i m. reg_point slot s id b bits i m in
-    ap (option_map (λ i. point (c / 12) i (c % 12))) (ap (rank_in first regs s) block ∙ one_at first regs j apart h)
+    ap (option_map (λ i. point (c / 12) i (c % 12))) (ap (which_reg first regs s) block ∙ one_at first regs j apart h)
     ∙ ap (λ b. Some (point b j (c % 12))) block
     ∙ ap (λ m. Some (point reg.block j m)) place
 
@@ -57,8 +55,8 @@ pub image_within : (grid : GridValue) (slot first id : ℕ) (regs : List Reg) (b
     → IsWithin grid (image_of slot first id regs bits)
 unfolding image_of
 image_within grid slot first id regs bits inside s c p e =
-    elim (rank_cases first regs s (c / 12)) [
-      | inl n ↦ absurd (none_some p (sym (ap (option_map (λ j. reg_point slot s id (c / 12) bits j (c % 12))) n.none) ∙ e))
+    elim (reg_cases first regs s (c / 12)) [
+      | inl n ↦ absurd (none-some p (sym (ap (option_map (λ j. reg_point slot s id (c / 12) bits j (c % 12))) n.none) ∙ e))
       | inr (j, r) ↦
           let (row, column) = inside j r.below in
           (omega (arith, r.symbol_is), omega (arith, r.block_is))
@@ -72,13 +70,15 @@ pub record IsOfReg (slot first id : ℕ) (regs : List Reg) (bits : List Bool) (s
   pub place_is : 12 * (reg_at regs reg).block + c % 12 ≡ c
   pub point_is : reg_point slot (first + (reg_at regs reg).symbol) id (reg_at regs reg).block bits reg (c % 12) ≡ p
 
-pub of_reg : (slot first id : ℕ) (regs : List Reg) (bits : List Bool) (s c : ℕ) (p : Point) → image_of slot first id regs bits s c ≡ Some p
+-- each point of an image is such a point
+pub of_reg : (slot first id : ℕ) (regs : List Reg) (bits : List Bool) (s c : ℕ) (p : Point)
+    → image_of slot first id regs bits s c ≡ Some p
     → IsOfReg slot first id regs bits s c p
 unfolding image_of
 of_reg slot first id regs bits s c p e =
     let point : ℕ → ℕ → ℕ → Point = λ symbol block j. reg_point slot symbol id block bits j (c % 12) in
-    elim (rank_cases first regs s (c / 12)) [
-      | inl n ↦ absurd (none_some p (sym (ap (option_map (point s (c / 12))) n.none) ∙ e))
+    elim (reg_cases first regs s (c / 12)) [
+      | inl n ↦ absurd (none-some p (sym (ap (option_map (point s (c / 12))) n.none) ∙ e))
       | inr (j, r) ↦ record {
         reg = j;
         within = r.below;
@@ -92,7 +92,8 @@ of_reg slot first id regs bits s c p e =
     ]
 
 -- where two lists of REGs share no symbol and block, their images are alike wherever both have a point: nowhere
-pub images_compatible : (slot first id : ℕ) (regs : List Reg) (bits : List Bool) (slot' first' id' : ℕ) (regs' : List Reg) (bits' : List Bool)
+pub images_compatible : (slot first id : ℕ) (regs : List Reg) (bits : List Bool) (slot' first' id' : ℕ) (regs' : List Reg)
+    (bits' : List Bool)
     → ((i j : ℕ) → i < length regs → j < length regs' → first + (reg_at regs i).symbol ≡ first' + (reg_at regs' j).symbol
     → (reg_at regs i).block ≡ (reg_at regs' j).block → ⊥)
     → AreCompatible (image_of slot first id regs bits) (image_of slot' first' id' regs' bits')

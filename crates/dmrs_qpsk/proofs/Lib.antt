@@ -1,6 +1,9 @@
 pub mod RegPuts
-pub mod Ranks
+pub mod BlockPlaces
+pub mod RegNumbers
 pub mod ImagesOnGrid
+pub mod RegPoints
+pub mod PointsRead
 pub mod Takes
 pub mod ReferencePairs
 pub mod ReferenceRows

@@ -6,6 +6,7 @@ use Rattle.dmrs_qpsk.specs.PointLaws.{HoldsWhatWasPut}
 use Rattle.dmrs_qpsk.specs.PointsOnGrid.{image_of}
 use Rattle.dmrs_qpsk.proofs.Takes.{held_after, one_held}
 
+-- the law
 pub holds_what_was_put : HoldsWhatWasPut
 holds_what_was_put grid first id regs bits other order inside size =
     let after = overwritten (image_of grid.slot first id regs bits) grid in

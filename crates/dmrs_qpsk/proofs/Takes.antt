@@ -1,14 +1,14 @@
--- Points at the places of REGs are read one after another, and a grid holds one list of bits on REGs or has one first bad place there.
-use Rattle.std.proofs.Common.{◌≡◌, ◌≢◌, ℕ, ◌+◌, ◌*◌, ◌/◌, ◌%◌, ◌<◌, Bool, true, false, cond, List, [], ◌∷◌, ◌++◌, Ok, Err, Result, IfOk, IfErr, ◌↔◌, length, ◌⊎◌, inl, inr, refl, sym, ◌∙◌, ap, subst, arith, below_more, length-append}
+-- A grid holds one list of bits on REGs, or has one first bad place there.
+use Rattle.std.proofs.Common.{◌≡◌, ℕ, ◌+◌, ◌*◌, ◌/◌, ◌%◌, ◌<◌, Bool, true, false, List, length, Ok, Err, Result, IfOk, IfErr, ◌↔◌}
+use Rattle.std.proofs.Common.{inl, inr, refl, sym, ◌∙◌, ap, subst, arith}
 use Rattle.std.proofs.lemmas.Bool.{cases_lt}
-use Rattle.std.proofs.lemmas.Bool.Decides.{nat_tests}
-use Rattle.std.proofs.lemmas.List.{same_lists, get_or_default, get_or_append_left, get_or-append-add}
+use Rattle.std.proofs.lemmas.List.{same_lists, get_or_default}
 use Rattle.bits_core.specs.Bits.{bit_of}
 use Rattle.slot_grid.specs.declared.places.Point.{Point}
 use Rattle.slot_grid.specs.declared.places.Point.TheVariants.{Empty as NoPoint}
 use Rattle.slot_grid.specs.Grid.{GridValue, point_at}
 use Rattle.slot_grid.specs.Image.{overwritten}
-use Rattle.slot_grid.proofs.Images.{agrees-overwritten}
+use Rattle.slot_grid.proofs.Images.{agrees_overwritten}
 use Rattle.dmrs_qpsk.specs.declared.taking.BadPlace.{BadPlace}
 use Rattle.dmrs_qpsk.specs.declared.taking.Flaw.{Flaw}
 use Rattle.dmrs_qpsk.specs.declared.taking.Flaw.TheVariants.{Empty, Reference}
@@ -17,10 +17,12 @@ use Rattle.dmrs_qpsk.specs.Modulation.{point_of}
 use Rattle.coreset_map.specs.DataPlaces.{is_reference}
 use Rattle.coreset_map.specs.RegOrder.{reg_at, AreRegs}
 use Rattle.dmrs_qpsk.specs.PointsOnGrid.{data_rank, reg_point, image_of, AreInside}
-use Rattle.dmrs_qpsk.specs.ReferencePoints.{reference}
 use Rattle.dmrs_qpsk.specs.Held.{Holds, IsFlawed, IsBad, IsFirstBad}
-use Rattle.dmrs_qpsk.specs.Taken.{IsPointTaken, HasPoint, ArePointsTaken}
-use Rattle.dmrs_qpsk.proofs.ImagesOnGrid.{image_at, image_within, of_reg}
+use Rattle.dmrs_qpsk.proofs.BlockPlaces.{data_rank_back, is_data}
+use Rattle.dmrs_qpsk.proofs.ImagesOnGrid.{image_at, image_within}
+use Rattle.dmrs_qpsk.proofs.PointsRead.{HasPoint, ArePointsTaken, taken_at}
+use Rattle.dmrs_qpsk.proofs.RegPoints.{reference_there, data_there}
+use Rattle.list_facts.proofs.Tests.{true_not_false}
 
 -- the point of two bits is a point
 not_empty : (a b : Bool) → point_of a b ≡ NoPoint → ⊥
@@ -48,26 +50,6 @@ one_point true true false true e = (cc, cc)
 one_point true true true false e = (cc, cc)
 one_point true true true true e = (refl, refl)
 
--- where a REG has its reference points
-reference_there : (slot symbol id block : ℕ) (bits : List Bool) (j k : ℕ) → is_reference k ≡ true
-    → reg_point slot symbol id block bits j k ≡ reference slot symbol id block (k / 4)
-unfolding reg_point
-reference_there slot symbol id block bits j k e =
-    ap
-    (λ t. cond t (reference slot symbol id block (k / 4))
-    (point_of (bit_of bits (18 * j + 2 * data_rank k)) (bit_of bits (18 * j + 2 * data_rank k + 1))))
-    e
-
--- where a REG has the points of its bits
-pub data_there : (slot symbol id block : ℕ) (bits : List Bool) (j k : ℕ) → is_reference k ≡ false
-    → reg_point slot symbol id block bits j k ≡ point_of (bit_of bits (18 * j + 2 * data_rank k)) (bit_of bits (18 * j + 2 * data_rank k + 1))
-unfolding reg_point
-data_there slot symbol id block bits j k e =
-    ap
-    (λ t. cond t (reference slot symbol id block (k / 4))
-    (point_of (bit_of bits (18 * j + 2 * data_rank k)) (bit_of bits (18 * j + 2 * data_rank k + 1))))
-    e
-
 -- the point of a place has no flaw
 flawed_apart : (slot symbol id block : ℕ) (bits : List Bool) (j k : ℕ) (point : Point) (flaw : Flaw)
     → point ≡ reg_point slot symbol id block bits j k → IsFlawed slot symbol id block k point flaw → ⊥
@@ -82,9 +64,9 @@ one_flaw : (slot symbol id block k : ℕ) (p : Point) (a : Flaw) (slot' symbol' 
 one_flaw slot symbol id block k p Empty slot' symbol' id' block' k' q Empty e f g = refl
 one_flaw slot symbol id block k p Reference slot' symbol' id' block' k' q Reference e f g = refl
 one_flaw slot symbol id block k p Empty slot' symbol' id' block' k' q Reference e f g =
-    let t : true ≡ false = sym g.0 ∙ sym (ap is_reference e) ∙ f.0 in cc
+    absurd (true_not_false (is_reference k') g.0 (sym (ap is_reference e) ∙ f.0))
 one_flaw slot symbol id block k p Reference slot' symbol' id' block' k' q Empty e f g =
-    let t : true ≡ false = sym f.0 ∙ ap is_reference e ∙ g.0 in cc
+    absurd (true_not_false (is_reference k) f.0 (ap is_reference e ∙ g.0))
 
 -- the same flaw, said of equal places
 same_flaw : (slot symbol id block k : ℕ) (p : Point) (block' k' : ℕ) (q : Point) (flaw : Flaw) → block ≡ block' → k ≡ k' → p ≡ q
@@ -95,144 +77,9 @@ same_flaw slot symbol id block k p block' k' q flaw e f g h =
     let of : Point → Type 0 = λ x. IsFlawed slot symbol id block' k' x flaw in
     subst of g (subst at f (subst in_block e h))
 
-true_false : true ≡ false → ⊥
-true_false e = cc
-
-not_1 : (k : ℕ) → is_reference k ≡ false → k ≡ 1 → ⊥
-not_1 k e f = true_false (let P : ℕ → Type 0 = λ x. is_reference x ≡ false in subst P f e)
-
-not_5 : (k : ℕ) → is_reference k ≡ false → k ≡ 5 → ⊥
-not_5 k e f = true_false (let P : ℕ → Type 0 = λ x. is_reference x ≡ false in subst P f e)
-
-not_9 : (k : ℕ) → is_reference k ≡ false → k ≡ 9 → ⊥
-not_9 k e f = true_false (let P : ℕ → Type 0 = λ x. is_reference x ≡ false in subst P f e)
-
-is_data : (k : ℕ) → k ≢ 1 → k ≢ 5 → k ≢ 9 → is_reference k ≡ false
-is_data k a b c = grind (arith, nat_tests)
-
-which_reference : (k : ℕ) → is_reference k ≡ true → (k ≡ 1) ⊎ ((k ≡ 5) ⊎ (k ≡ 9))
-which_reference k e = grind (arith, nat_tests)
-
--- how many bits the places below have, at the place after a reference place and after a data place
-size_after_reference : (n : ℕ) → is_reference (n % 12) ≡ true → 18 * (n / 12) + 2 * data_rank (n % 12) ≡ 18 * ((n + 1) / 12) + 2 * data_rank ((n + 1) % 12)
-size_after_reference n e =
-    elim (which_reference (n % 12) e) [
-      | inl a ↦ omega arith
-      | inr r ↦ elim r [ inl a ↦ omega arith | inr a ↦ omega arith ]
-    ]
-
-size_after_data : (n : ℕ) → n % 12 ≢ 1 → n % 12 ≢ 5 → n % 12 ≢ 9
-    → 18 * (n / 12) + 2 * data_rank (n % 12) + 2 ≡ 18 * ((n + 1) / 12) + 2 * data_rank ((n + 1) % 12)
-size_after_data n a b c = omega arith
-
--- the bits of an earlier data place are among those of the places below
-earlier_bits : (m n : ℕ) → m < n → m % 12 ≢ 1 → m % 12 ≢ 5 → m % 12 ≢ 9
-    → 18 * (m / 12) + 2 * data_rank (m % 12) + 1 < 18 * (n / 12) + 2 * data_rank (n % 12)
-earlier_bits m n h a b c = omega arith
-
--- more bits change no earlier point
-kept_by : (slot symbol id block : ℕ) (bits more : List Bool) (j k : ℕ) (t : Bool) → is_reference k ≡ t
-    → (is_reference k ≡ false → 18 * j + 2 * data_rank k + 1 < length bits)
-    → reg_point slot symbol id block bits j k ≡ reg_point slot symbol id block (bits ++ more) j k
-kept_by slot symbol id block bits more j k true e h =
-    reference_there slot symbol id block bits j k e ∙ sym (reference_there slot symbol id block (bits ++ more) j k e)
-kept_by slot symbol id block bits more j k false e h =
-    let at = 18 * j + 2 * data_rank k in
-    let l : at + 1 < length bits = h e in
-    data_there slot symbol id block bits j k e
-    ∙ ap (λ x. point_of x (bit_of bits (at + 1))) (sym (get_or_append_left bits more false at (omega arith)))
-    ∙ ap (λ x. point_of (bit_of (bits ++ more) at) x) (sym (get_or_append_left bits more false (at + 1) l))
-    ∙ sym (data_there slot symbol id block (bits ++ more) j k e)
-
--- the two bits that come last are those of their place
-last_bits : (bits : List Bool) (a b : Bool) (at : ℕ) → length bits ≡ at
-    → point_of a b ≡ point_of (bit_of (bits ++ a ∷ b ∷ []) at) (bit_of (bits ++ a ∷ b ∷ []) (at + 1))
-last_bits bits a b at e =
-    let all = bits ++ a ∷ b ∷ [] in
-    let first : bit_of all at ≡ a = ap (bit_of all) (omega arith) ∙ get_or-append-add bits (a ∷ b ∷ []) 0 false in
-    let second : bit_of all (at + 1) ≡ b = ap (bit_of all) (omega arith) ∙ get_or-append-add bits (a ∷ b ∷ []) 1 false in
-    ap (λ x. point_of x b) (sym first) ∙ ap (point_of (bit_of all at)) (sym second)
-
--- a reference place is read
-reference_taken : (grid : GridValue) (first id : ℕ) (regs : List Reg) (bits : List Bool) (n : ℕ) → ArePointsTaken grid first id regs bits n
-    → is_reference (n % 12) ≡ true
-    → point_at grid (first + (reg_at regs (n / 12)).symbol) (12 * (reg_at regs (n / 12)).block + n % 12)
-    ≡ reference grid.slot (first + (reg_at regs (n / 12)).symbol) id (reg_at regs (n / 12)).block (n % 12 / 4)
-    → ArePointsTaken grid first id regs bits (n + 1)
-reference_taken grid first id regs bits n h e p =
-    let reg = reg_at regs (n / 12) in
-    record {
-      size = h.size ∙ size_after_reference n e;
-      there = below_more (λ m. HasPoint grid first id regs bits (m / 12) (m % 12)) n h.there
-          (p ∙ sym (reference_there grid.slot (first + reg.symbol) id reg.block bits (n / 12) (n % 12) e));
-    }
-
--- a data place is read
-data_taken : (grid : GridValue) (first id : ℕ) (regs : List Reg) (bits : List Bool) (n : ℕ) (a b : Bool) → ArePointsTaken grid first id regs bits n
-    → is_reference (n % 12) ≡ false
-    → point_at grid (first + (reg_at regs (n / 12)).symbol) (12 * (reg_at regs (n / 12)).block + n % 12) ≡ point_of a b
-    → ArePointsTaken grid first id regs (bits ++ a ∷ b ∷ []) (n + 1)
-data_taken grid first id regs bits n a b h e p =
-    let reg = reg_at regs (n / 12) in
-    let all = bits ++ a ∷ b ∷ [] in
-    record {
-      size =
-          length-append bits (a ∷ b ∷ []) ∙ ap (λ l. l + 2) h.size
-          ∙ size_after_data n (not_1 (n % 12) e) (not_5 (n % 12) e) (not_9 (n % 12) e);
-      there = below_more (λ m. HasPoint grid first id regs all (m / 12) (m % 12)) n
-          (λ m l.
-          h.there m l
-          ∙ kept_by grid.slot (first + (reg_at regs (m / 12)).symbol) id (reg_at regs (m / 12)).block bits (a ∷ b ∷ []) (m / 12) (m % 12) (is_reference (m % 12)) refl
-          (λ f. omega (arith, h.size, earlier_bits m n l (not_1 (m % 12) f) (not_5 (m % 12) f) (not_9 (m % 12) f))))
-          (p ∙ last_bits bits a b (18 * (n / 12) + 2 * data_rank (n % 12)) h.size
-          ∙ sym (data_there grid.slot (first + reg.symbol) id reg.block all (n / 12) (n % 12) e));
-    }
-
-more_by : (grid : GridValue) (first id : ℕ) (regs : List Reg) (old new : List Bool) (n : ℕ) (t : Bool) → is_reference (n % 12) ≡ t
-    → ArePointsTaken grid first id regs old n
-    → IsPointTaken grid (first + (reg_at regs (n / 12)).symbol) id (reg_at regs (n / 12)).block (n % 12) old new
-    → ArePointsTaken grid first id regs new (n + 1)
-more_by grid first id regs old new n true e h taken =
-    let (p, same) = taken.reference_is e in
-    let P : List Bool → Type 0 = λ bits. ArePointsTaken grid first id regs bits (n + 1) in
-    subst P (sym same) (reference_taken grid first id regs old n h e p)
-more_by grid first id regs old new n false e h taken =
-    let (a, b, p, same) = taken.data_is e in
-    let P : List Bool → Type 0 = λ bits. ArePointsTaken grid first id regs bits (n + 1) in
-    subst P (sym same) (data_taken grid first id regs old n a b h e p)
-
--- one more place is read
-pub one_taken_more : (grid : GridValue) (first id : ℕ) (regs : List Reg) (old new : List Bool) (n : ℕ)
-    → ArePointsTaken grid first id regs old n
-    → IsPointTaken grid (first + (reg_at regs (n / 12)).symbol) id (reg_at regs (n / 12)).block (n % 12) old new
-    → ArePointsTaken grid first id regs new (n + 1)
-one_taken_more grid first id regs old new n h taken = more_by grid first id regs old new n (is_reference (n % 12)) refl h taken
-
--- each place that is read has its point
-taken_at : (grid : GridValue) (first id : ℕ) (regs : List Reg) (bits : List Bool) (n j k : ℕ) → ArePointsTaken grid first id regs bits n → k < 12
-    → 12 * j + k < n → HasPoint grid first id regs bits j k
-taken_at grid first id regs bits n j k h l m =
-    let reg : (12 * j + k) / 12 ≡ j = omega arith in
-    let within : (12 * j + k) % 12 ≡ k = omega arith in
-    let P : ℕ → Type 0 = λ i. HasPoint grid first id regs bits i ((12 * j + k) % 12) in
-    let Q : ℕ → Type 0 = λ i. HasPoint grid first id regs bits j i in
-    subst Q within (subst P reg (h.there (12 * j + k) m))
-
--- where all places are read, the grid holds the bits
-pub all_taken : (grid : GridValue) (first id : ℕ) (regs : List Reg) (bits : List Bool) (n : ℕ) → n ≡ 12 * length regs
-    → ArePointsTaken grid first id regs bits n → Holds grid first id regs bits
-all_taken grid first id regs bits n whole h = (
-  omega (arith, h.size),
-  λ s c p e.
-      let o = of_reg grid.slot first id regs bits s c p e in
-      ap (λ symbol. point_at grid symbol c) (sym o.symbol_is)
-      ∙ ap (point_at grid (first + (reg_at regs o.reg).symbol)) (sym o.place_is)
-      ∙ taken_at grid first id regs bits n o.reg (c % 12) h (omega arith) (omega (arith, o.within))
-      ∙ o.point_is,
-)
-
 -- where the grid holds bits, each place has its point
-held_at : (grid : GridValue) (first id : ℕ) (regs : List Reg) (bits : List Bool) (j k : ℕ) → AreRegs regs → Holds grid first id regs bits
+held_at : (grid : GridValue) (first id : ℕ) (regs : List Reg) (bits : List Bool) (j k : ℕ) → AreRegs regs
+    → Holds grid first id regs bits
     → j < length regs → k < 12 → HasPoint grid first id regs bits j k
 held_at grid first id regs bits j k apart h l m =
     let reg = reg_at regs j in
@@ -240,7 +87,8 @@ held_at grid first id regs bits j k apart h l m =
     (image_at grid.slot first id regs bits j k apart l m)
 
 -- a place with its point is not bad
-point_apart : (grid : GridValue) (first id : ℕ) (regs : List Reg) (bits : List Bool) (bad : BadPlace) (b : IsBad grid first id regs bad)
+point_apart : (grid : GridValue) (first id : ℕ) (regs : List Reg) (bits : List Bool) (bad : BadPlace)
+    (b : IsBad grid first id regs bad)
     → HasPoint grid first id regs bits b.reg (bad.subcarrier % 12) → ⊥
 point_apart grid first id regs bits bad b h =
     let reg = reg_at regs b.reg in
@@ -258,14 +106,17 @@ point_apart grid first id regs bits bad b h =
 pub bad_apart : (grid : GridValue) (first id : ℕ) (regs : List Reg) (bits : List Bool) (bad : BadPlace) → AreRegs regs
     → Holds grid first id regs bits → IsBad grid first id regs bad → ⊥
 bad_apart grid first id regs bits bad apart h b =
-    point_apart grid first id regs bits bad b (held_at grid first id regs bits b.reg (bad.subcarrier % 12) apart h b.within (omega arith))
+    point_apart grid first id regs bits bad b
+    (held_at grid first id regs bits b.reg (bad.subcarrier % 12) apart h b.within (omega arith))
 
 -- where the places before are read, a bad place is the first
-pub first_bad : (grid : GridValue) (first id : ℕ) (regs : List Reg) (bits : List Bool) (n subcarrier : ℕ) (flaw : Flaw) → AreRegs regs
+pub first_bad : (grid : GridValue) (first id : ℕ) (regs : List Reg) (bits : List Bool) (n subcarrier : ℕ) (flaw : Flaw)
+    → AreRegs regs
     → n < 12 * length regs → ArePointsTaken grid first id regs bits n → subcarrier ≡ 12 * (reg_at regs (n / 12)).block + n % 12
     → IsFlawed grid.slot (first + (reg_at regs (n / 12)).symbol) id (reg_at regs (n / 12)).block (n % 12)
     (point_at grid (first + (reg_at regs (n / 12)).symbol) (12 * (reg_at regs (n / 12)).block + n % 12)) flaw
-    → IsFirstBad grid first id regs (record { symbol = first + (reg_at regs (n / 12)).symbol; subcarrier = subcarrier; flaw = flaw })
+    → IsFirstBad grid first id regs
+    (record { symbol = first + (reg_at regs (n / 12)).symbol; subcarrier = subcarrier; flaw = flaw })
 first_bad grid first id regs bits n subcarrier flaw apart l h place f =
     let reg = reg_at regs (n / 12) in
     let symbol = first + reg.symbol in
@@ -277,13 +128,17 @@ first_bad grid first id regs bits n subcarrier flaw apart l h place f =
         within = omega arith;
         symbol_is = refl;
         block_is = sym block;
-        flawed = same_flaw grid.slot symbol id reg.block (n % 12) (point_at grid symbol (12 * reg.block + n % 12)) (subcarrier / 12) (subcarrier % 12)
+        flawed =
+            same_flaw grid.slot symbol id reg.block (n % 12) (point_at grid symbol (12 * reg.block + n % 12))
+            (subcarrier / 12) (subcarrier % 12)
             (point_at grid symbol subcarrier) flaw block within (ap (point_at grid symbol) (sym place)) f;
       };
       earliest = λ other o.
           let k = other.subcarrier % 12 in
           elim (cases_lt (12 * o.reg + k) n) [
-            | inl m ↦ absurd (point_apart grid first id regs bits other o (taken_at grid first id regs bits n o.reg k h (omega arith) m))
+            | inl m ↦
+                absurd (point_apart grid first id regs bits other o
+                (taken_at grid first id regs bits n o.reg k h (omega arith) m))
             | inr m ↦ elim (cases_lt (n / 12) o.reg) [
               | inl i ↦
                   let p = apart (n / 12) o.reg i o.within in
@@ -297,7 +152,8 @@ first_bad grid first id regs bits n subcarrier flaw apart l h place f =
           ];
     }
 
-one_bit : (grid : GridValue) (first id : ℕ) (regs : List Reg) (a b : List Bool) (i : ℕ) → AreRegs regs → Holds grid first id regs a
+one_bit : (grid : GridValue) (first id : ℕ) (regs : List Reg) (a b : List Bool) (i : ℕ) → AreRegs regs
+    → Holds grid first id regs a
     → Holds grid first id regs b → i < 18 * length regs → bit_of a i ≡ bit_of b i
 one_bit grid first id regs a b i apart g h l =
     let j = i / 18 in
@@ -306,7 +162,7 @@ one_bit grid first id regs a b i apart g h l =
     let at = 18 * j + 2 * data_rank k in
     let reg = reg_at regs j in
     let small : k < 12 = omega arith in
-    let rank : data_rank k ≡ d = omega arith in
+    let rank : data_rank k ≡ d = data_rank_back d (omega arith) in
     let e : is_reference k ≡ false = is_data k (λ x. omega arith) (λ x. omega arith) (λ x. omega arith) in
     let within : j < length regs = omega arith in
     let p : point_of (bit_of a at) (bit_of a (at + 1)) ≡ point_of (bit_of b at) (bit_of b (at + 1)) =
@@ -336,7 +192,8 @@ abbrev bad_place : ℕ → ℕ → Flaw → BadPlace
 bad_place symbol subcarrier flaw = record { symbol = symbol; subcarrier = subcarrier; flaw = flaw }
 
 -- REGs have one first bad place at most
-pub one_first : (grid : GridValue) (first id : ℕ) (regs : List Reg) (a b : BadPlace) → IsFirstBad grid first id regs a → IsFirstBad grid first id regs b → a ≡ b
+pub one_first : (grid : GridValue) (first id : ℕ) (regs : List Reg) (a b : BadPlace) → IsFirstBad grid first id regs a
+    → IsFirstBad grid first id regs b → a ≡ b
 one_first grid first id regs a b g h =
     let before = g.earliest b h.is_bad in
     let after = h.earliest a g.is_bad in
@@ -352,24 +209,27 @@ one_first grid first id regs a b g h =
     ∙ ap (λ x. bad_place b.symbol b.subcarrier x) flaw
 
 -- a grid on which bits were written holds them
-pub held_after : (grid : GridValue) (first id : ℕ) (regs : List Reg) (bits : List Bool) → AreInside grid first regs → length bits ≡ 18 * length regs
+pub held_after : (grid : GridValue) (first id : ℕ) (regs : List Reg) (bits : List Bool) → AreInside grid first regs
+    → length bits ≡ 18 * length regs
     → Holds (overwritten (image_of grid.slot first id regs bits) grid) first id regs bits
 unfolding overwritten
 held_after grid first id regs bits inside size =
     let image = image_of grid.slot first id regs bits in
-    (size, agrees-overwritten image grid (image_within grid grid.slot first id regs bits inside))
+    (size, agrees_overwritten image grid (image_within grid grid.slot first id regs bits inside))
 
 -- what is read: bits that the grid holds, or its first bad place
 abbrev IsTaken : GridValue → ℕ → ℕ → List Reg → Result (List Bool) BadPlace → Type 0
 IsTaken grid first id regs (Ok bits) = Holds grid first id regs bits
 IsTaken grid first id regs (Err bad) = IsFirstBad grid first id regs bad
 
-is_taken : (grid : GridValue) (first id : ℕ) (regs : List Reg) (result : Result (List Bool) BadPlace) → IfOk result (Holds grid first id regs)
+is_taken : (grid : GridValue) (first id : ℕ) (regs : List Reg) (result : Result (List Bool) BadPlace)
+    → IfOk result (Holds grid first id regs)
     → IfErr result (IsFirstBad grid first id regs) → IsTaken grid first id regs result
 is_taken grid first id regs (Ok bits) g h = g
 is_taken grid first id regs (Err bad) g h = h
 
-one_taken : (grid : GridValue) (first id : ℕ) (regs : List Reg) (a b : Result (List Bool) BadPlace) → AreRegs regs → IsTaken grid first id regs a
+one_taken : (grid : GridValue) (first id : ℕ) (regs : List Reg) (a b : Result (List Bool) BadPlace) → AreRegs regs
+    → IsTaken grid first id regs a
     → IsTaken grid first id regs b → a ≡ b
 one_taken grid first id regs (Ok a) (Ok b) apart g h = ap (λ x. Ok x) (one_held grid first id regs a b apart g h)
 one_taken grid first id regs (Ok a) (Err b) apart g h = absurd (bad_apart grid first id regs a b apart g h.is_bad)

@@ -1,4 +1,4 @@
--- How far the sequence of a symbol's reference points was read.
+-- How far the sequence of a symbol's reference points was read: of the code, not of the standard.
 use Rattle.std.specs.Prelude.{◌≡◌, ℕ, ◌≤◌, ◌^◌}
 use Rattle.gold_scrambler.specs.Gold.{GoldValue}
 

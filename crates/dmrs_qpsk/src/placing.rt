@@ -5,7 +5,9 @@ ghost use Rattle.coreset_map.specs.RegOrder.{AreRegs};
 ghost use Rattle.dmrs_qpsk.specs.PointsOnGrid.{reg_point, image_of, AreInside};
 ghost use Rattle.dmrs_qpsk.specs.Placed.{IsRegPut, AreRegsPut};
 
-use crate::reference::{qpsk_point, reference_point};
+use crate::reference::{
+    data_before, has_reference, qpsk_point, reference_point, references_before,
+};
 use arrayvec::ArrayVec;
 use bits_core::Coded;
 use coreset_map::Reg;
@@ -13,8 +15,8 @@ use slot_grid::{Grid, Point};
 
 /// Writes the points of bits, 18 for each REG, and the reference points of the REGs, and leaves every other place.
 ///
-/// The REGs are in order of symbol, then block, and inside the grid, where their symbols are counted from symbol `first` of the slot.
-/// `id` is the scrambling identity of the reference points.
+/// The REGs are in order of symbol, then block, and inside the grid, where their symbols are counted from symbol
+/// `first` of the slot. `id` is the scrambling identity of the reference points.
 pub fn put_bits(grid: &mut Grid, first: u8, regs: &ArrayVec<Reg, 96>, id: u16, bits: &Coded)
     requires regs { AreRegs regs.now.items }
     requires inside { AreInside grid.old first regs.now.items }
@@ -65,11 +67,11 @@ fn point_in_reg(slot: u16, symbol: u8, id: u16, block: u16, bits: &Coded, j: usi
     requires k { k < 12 }
     ensures { result ≡ reg_point slot symbol id block bits.now j k }
 {
-    if k == 1 || k == 5 || k == 9 {
-        return reference_point(slot, symbol, id, block, k / 4);
+    if has_reference(k) {
+        return reference_point(slot, symbol, id, block, references_before(k));
     }
     let _length = bits.len();
-    let at = 18 * j + 2 * usize::from(k - (k + 2) / 4);
+    let at = 18 * j + 2 * usize::from(data_before(k));
     let first = bits.get(at);
     let second = bits.get(at + 1);
     qpsk_point(first, second)

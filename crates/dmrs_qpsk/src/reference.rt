@@ -1,6 +1,8 @@
 //! QPSK points, and those of the demodulation reference signal.
-ghost use Rattle.std.specs.Prelude.{◌≡◌, ◌^◌, ◌<◌, ◌≤◌};
+ghost use Rattle.std.specs.Prelude.{◌≡◌, ◌^◌, ◌<◌, ◌≤◌, true};
+ghost use Rattle.coreset_map.specs.DataPlaces.{is_reference};
 ghost use Rattle.dmrs_qpsk.specs.Modulation.{point_of};
+ghost use Rattle.dmrs_qpsk.specs.PointsOnGrid.{data_rank, reference_rank};
 ghost use Rattle.dmrs_qpsk.specs.ReferencePoints.{reference, reference_start};
 
 use gold_scrambler::Gold;
@@ -16,6 +18,31 @@ pub fn qpsk_point(first: bool, second: bool) -> Point
         (true, false) => Point::P10,
         (true, true) => Point::P11,
     }
+}
+
+/// Whether subcarrier `k` of a block has a reference point (3GPP TS 38.211, 7.4.1.3.2).
+pub(crate) fn has_reference(k: u8) -> bool
+    ensures { result ≡ is_reference k }
+{
+    k == 1 || k == 5 || k == 9
+}
+
+/// How many reference points a block has below subcarrier `k`, which has one.
+pub(crate) fn references_before(k: u8) -> u8
+    requires { is_reference k ≡ true }
+    ensures value { result ≡ reference_rank k }
+    ensures small { result ≤ 2 }
+{
+    k / 4
+}
+
+/// How many data places a block has below subcarrier `k`.
+pub(crate) fn data_before(k: u8) -> u8
+    requires { k < 12 }
+    ensures value { result ≡ data_rank k }
+    ensures small { result < 9 }
+{
+    k - (k + 2) / 4
 }
 
 /// The reference point at subcarrier `4 * k + 1` of a common block (3GPP TS 38.211, 7.4.1.3.1).

@@ -9,6 +9,7 @@ ghost use Rattle.dmrs_qpsk.specs.PointsOnGrid.{AreInside};
 ghost use Rattle.dmrs_qpsk.specs.Held.{Holds, IsFlawed, IsFirstBad};
 ghost use Rattle.dmrs_qpsk.specs.Taken.{IsPointTaken};
 
+use crate::reference::{has_reference, references_before};
 use crate::sequences::{Sequence, next_reference};
 use arrayvec::ArrayVec;
 use bits_core::Coded;
@@ -34,8 +35,9 @@ pub struct BadPlace {
 
 /// The bits whose points are on the data places of REGs, 18 for each, where every reference place has its reference point.
 ///
-/// The REGs are in order of symbol, then block, and inside the grid, where their symbols are counted from symbol `first` of the slot.
-/// `id` is the scrambling identity of the reference points. The error is the first bad place by symbol, then subcarrier.
+/// The REGs are in order of symbol, then block, and inside the grid, where their symbols are counted from symbol
+/// `first` of the slot. `id` is the scrambling identity of the reference points. The error is the first bad place by
+/// symbol, then subcarrier.
 pub fn take_bits(
     grid: &Grid,
     first: u8,
@@ -78,8 +80,9 @@ fn take_regs(grid: &Grid, first: u8, regs: &[Reg], id: u16) -> Result<Coded, Bad
     Ok(bits)
 }
 
-/// Appends the bits at subcarrier `k` of a REG, which is in this symbol of the slot and this block: two, or none at a reference place.
-/// `sequence` is where the reference points were last read, so that they need not be counted from the first one.
+/// Appends the bits at subcarrier `k` of a REG, which is in this symbol of the slot and this block: two, or none at a
+/// reference place. `sequence` is where the reference points were last read, so that they need not be counted from the
+/// first one.
 fn take_point(
     grid: &Grid,
     sequence: &mut Option<Sequence>,
@@ -94,12 +97,14 @@ fn take_point(
     requires k { k < 12 }
     requires room { length bits.old + 2 ≤ 1728 }
     ensures taken { OnOk result (IsPointTaken grid.now symbol id block k bits.old bits.new) }
-    ensures flawed { IfErr result (λ flaw. IsFlawed grid.now.slot symbol id block k (point_at grid.now symbol (12 * block + k)) flaw) }
+    ensures flawed { IfErr result (λ flaw. IsFlawed grid.now.slot symbol id block k
+        (point_at grid.now symbol (12 * block + k)) flaw) }
 {
     let _blocks = grid.blocks();
     let point = grid.get(symbol, 12 * block + u16::from(k));
-    if k == 1 || k == 5 || k == 9 {
-        if point == next_reference(sequence, grid.slot(), symbol, id, block, k / 4) {
+    if has_reference(k) {
+        let number = references_before(k);
+        if point == next_reference(sequence, grid.slot(), symbol, id, block, number) {
             return Ok(());
         }
         return Err(Flaw::Reference);

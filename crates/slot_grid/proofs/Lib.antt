@@ -1,3 +1,6 @@
 pub mod Slots
+pub mod Numbers
+pub mod Points
 pub mod Writes
 pub mod Images
+pub mod Agreements

@@ -1,8 +1,9 @@
 -- What is written on a grid: an image has a point at some places, and a grid overwritten with it has these.
-use Rattle.std.specs.Prelude.{◌≡◌, ℕ, ◌*◌, ◌/◌, ◌%◌, ◌<◌, Option, Some, map, replicate, unwrap_or, slice_index_or}
+use Rattle.std.specs.Prelude.{◌≡◌, ℕ, ◌*◌, ◌/◌, ◌%◌, Bool, true, false, Option, Some, None}
+use Rattle.std.specs.Prelude.{map, replicate, unwrap_or, slice_index_or}
 use Rattle.std.specs.List.{range_with_len}
 use Rattle.slot_grid.specs.declared.places.Point.{Point}
-use Rattle.slot_grid.specs.declared.places.Point.TheVariants.{Empty}
+use Rattle.slot_grid.specs.declared.places.Point.TheVariants.{Empty, P00, P01, P10, P11}
 use Rattle.slot_grid.specs.Grid.{GridValue, point_at}
 
 -- the point that is written at a symbol and a subcarrier, where one is
@@ -35,10 +36,20 @@ overwritten image grid = record {
 abbrev pub Agrees : GridValue → Image → Type 0
 Agrees grid image = (s c : ℕ) (p : Point) → image s c ≡ Some p → point_at grid s c ≡ p
 
--- two images have the same point at each place that both have
-abbrev pub AreCompatible : Image → Image → Type 0
-AreCompatible a b = (s c : ℕ) (p q : Point) → a s c ≡ Some p → b s c ≡ Some q → p ≡ q
+-- whether two points are one
+abbrev pub is_point : Point → Point → Bool
+is_point Empty Empty = true
+is_point P00 P00 = true
+is_point P01 P01 = true
+is_point P10 P10 = true
+is_point P11 P11 = true
+is_point _ _ = false
 
--- each place of the image is one of the grid
-abbrev pub IsWithin : GridValue → Image → Type 0
-IsWithin grid image = (s c : ℕ) (p : Point) → image s c ≡ Some p → (s < 14) × (c < 12 * grid.blocks)
+-- whether a point is the one that an image has at its place, where it has one there
+abbrev pub is_as_wanted : Option Point → Point → Bool
+is_as_wanted None point = true
+is_as_wanted (Some wanted) point = is_point wanted point
+
+-- whether the grid has at a place the image's point, where the image has one there: with this at every place it agrees
+abbrev pub agrees_at : GridValue → Image → ℕ → ℕ → Bool
+agrees_at grid image s c = is_as_wanted (image s c) (point_at grid s c)

@@ -1,6 +1,6 @@
 //! The points of a slot, each at its symbol and subcarrier.
-ghost use Rattle.std.specs.Prelude.{◌≡◌, ◌+◌, ◌*◌, ◌^◌, ◌<◌, ◌≤◌, IfOk};
-ghost use Rattle.slot_grid.specs.Grid.{IsGrid, IsPut, point_at, with_point};
+ghost use Rattle.std.specs.Prelude.{◌≡◌, ◌+◌, ◌*◌, ◌<◌, ◌≤◌, IfOk};
+ghost use Rattle.slot_grid.specs.Grid.{IsGrid, IsPut, point_at, slots_in_frame, with_point};
 ghost use Rattle.slot_grid.specs.Image.{blank_grid};
 
 use bits_core::NoMemory;
@@ -57,7 +57,7 @@ impl Grid {
     ) -> Result<Grid, NoMemory>
         requires mu { mu ≤ 3 }
         requires frame { frame ≤ 1023 }
-        requires slot { slot < 10 * 2 ^ mu }
+        requires slot { slot < slots_in_frame mu }
         requires blocks_least { 6 ≤ blocks }
         requires blocks_most { blocks ≤ 275 }
         ensures { IfOk result (λ g. g ≡ blank_grid mu frame slot blocks) }
@@ -118,6 +118,8 @@ impl Grid {
     }
 
     /// Writes the point at `symbol`, below 14, and `subcarrier`, below `12 * blocks`, and at no other place.
+    ///
+    /// The second clause says it place by place, and follows from the first.
     pub fn put(&mut self, symbol: u8, subcarrier: u16, point: Point)
         requires symbol { symbol < 14 }
         requires subcarrier { subcarrier < 12 * self.old.blocks }

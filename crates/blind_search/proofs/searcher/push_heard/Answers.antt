@@ -2,26 +2,28 @@ use Rattle.std.proofs.Common.{◌≡◌, List, arith, sym, subst, vec_capacity}
 use Rattle.dci_codec.specs.declared.heard.Heard.{Heard}
 use Rattle.blind_search.specs.Report.{AreOfWatches, report_of}
 use Rattle.blind_search.proofs.Reports.{report_within}
-use Rattle.blind_search.proofs.SoFar.{room-left, heard-more, heard-all}
+use Rattle.blind_search.proofs.SoFar.{room_left, heard_more, heard_all}
 use Rattle.blind_search.proofs.searcher.push_heard.Goals as goal
 
 pub push_heard_at-requires-clause-room : goal.push_heard_at-requires-clause-room
 push_heard_at-requires-clause-room c =
     let l = c.loop-number in
-    room-left c.args.tables.now c.args.grid.now c.args.watches.now l.number (vec_capacity c.args.heard.now) l.heard
+    room_left c.args.tables.now c.args.grid.now c.args.watches.now l.number (vec_capacity c.args.heard.now) l.heard
     (omega (arith, c.loop-number-test.true, c.requires.room)) l.invariant
 
 pub loop-number-preserved : goal.loop-number-preserved
 loop-number-preserved c =
     let l = c.loop-number in
-    heard-more c.args.tables.now c.args.grid.now c.args.watches.now l.number (vec_capacity c.args.heard.now) l.heard c.push_heard_at.new.heard
-    c.index-watches-number.result c.loop-number-test.true c.index-watches-number.is l.invariant c.push_heard_at.ensures.entry c.push_heard_at.ensures.room
+    heard_more c.args.tables.now c.args.grid.now c.args.watches.now l.number (vec_capacity c.args.heard.now) l.heard
+    c.push_heard_at.new.heard
+    c.index-watches-number.result c.loop-number-test.true c.index-watches-number.is l.invariant
+    c.push_heard_at.ensures.entry c.push_heard_at.ensures.room
 
 -- after the last watch
 all : (c : goal.After-loop-number) → c.loop-number.heard.items ≡ report_of c.args.tables.now c.args.grid.now c.args.watches.now
 all c =
     let l = c.loop-number in
-    heard-all c.args.tables.now c.args.grid.now c.args.watches.now l.number (vec_capacity c.args.heard.now) l.heard
+    heard_all c.args.tables.now c.args.grid.now c.args.watches.now l.number (vec_capacity c.args.heard.now) l.heard
     c.loop-number-test.false l.auto.number-end l.invariant
 
 pub returns-clause-report : goal.returns-clause-report
@@ -29,4 +31,5 @@ returns-clause-report = all
 
 pub returns-clause-within : goal.returns-clause-within
 returns-clause-within c =
-    subst (λ (entries : List Heard). AreOfWatches c.args.watches.now entries) (sym (all c)) (report_within c.args.tables.now c.args.grid.now c.args.watches.now)
+    subst (λ (entries : List Heard). AreOfWatches c.args.watches.now entries) (sym (all c))
+    (report_within c.args.tables.now c.args.grid.now c.args.watches.now)

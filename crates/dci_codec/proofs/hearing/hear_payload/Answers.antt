@@ -14,23 +14,28 @@ decode-requires c =
 
 pub returns-in-Some : goal.returns-in-Some
 returns-in-Some c =
-    payload_told c.args.tables.now c.args.grid.now c.args.watch.now c.code_at-code.result c.scramble-bits.result c.in-Ok-decode.block c.in-Some.payload
+    payload_told c.args.tables.now c.args.grid.now c.args.watch.now c.code_at-code.result c.scramble-bits.result
+    c.in-Ok-decode.block c.in-Some.payload
     c.code_at-code.ensures.tables
-    (received_from c.args.grid.now c.args.watch.now c.in-Ok.bits c.scramble-bits.result c.scramble-bits.ensures ((c.in-Ok.ensures.bits c.in-Ok.bits).0 refl))
+    (received_from c.args.grid.now c.args.watch.now c.in-Ok.bits c.scramble-bits.result c.scramble-bits.ensures
+    ((c.in-Ok.ensures.bits c.in-Ok.bits).0 refl))
     ((c.in-Ok-decode.ensures.word c.in-Ok-decode.block).0 refl) ((c.in-Some.ensures c.in-Some.payload).0 refl)
 
 pub returns-in-None : goal.returns-in-None
 returns-in-None c =
-    parity_told c.args.tables.now c.args.grid.now c.args.watch.now c.code_at-code.result c.scramble-bits.result c.in-Ok-decode.block
+    parity_told c.args.tables.now c.args.grid.now c.args.watch.now c.code_at-code.result c.scramble-bits.result
+    c.in-Ok-decode.block
     c.code_at-code.ensures.tables
-    (received_from c.args.grid.now c.args.watch.now c.in-Ok.bits c.scramble-bits.result c.scramble-bits.ensures ((c.in-Ok.ensures.bits c.in-Ok.bits).0 refl))
+    (received_from c.args.grid.now c.args.watch.now c.in-Ok.bits c.scramble-bits.result c.scramble-bits.ensures
+    ((c.in-Ok.ensures.bits c.in-Ok.bits).0 refl))
     ((c.in-Ok-decode.ensures.word c.in-Ok-decode.block).0 refl) c.in-None.ensures
 
 pub returns-in-Err-Repeat : goal.returns-in-Err-Repeat
 returns-in-Err-Repeat c =
     repeat_told c.args.tables.now c.args.grid.now c.args.watch.now c.code_at-code.result c.scramble-bits.result c.in-Err-Repeat.at
     c.code_at-code.ensures.tables
-    (received_from c.args.grid.now c.args.watch.now c.in-Ok.bits c.scramble-bits.result c.scramble-bits.ensures ((c.in-Ok.ensures.bits c.in-Ok.bits).0 refl))
+    (received_from c.args.grid.now c.args.watch.now c.in-Ok.bits c.scramble-bits.result c.scramble-bits.ensures
+    ((c.in-Ok.ensures.bits c.in-Ok.bits).0 refl))
     ((c.in-Err-Repeat.ensures.repeat c.in-Err-Repeat.at).0 (ap (λ (e : NoWord). Err e) c.in-Err-Repeat.field-0-is))
 
 pub returns-in-Err-Frozen : goal.returns-in-Err-Frozen
@@ -38,5 +43,6 @@ returns-in-Err-Frozen c =
     let told = c.in-Err-Frozen.ensures.frozen.0 (ap (λ (e : NoWord). Err e) c.in-Err-Frozen.field-0-is) in
     code_told c.args.tables.now c.args.grid.now c.args.watch.now c.code_at-code.result c.scramble-bits.result
     c.code_at-code.ensures.tables
-    (received_from c.args.grid.now c.args.watch.now c.in-Ok.bits c.scramble-bits.result c.scramble-bits.ensures ((c.in-Ok.ensures.bits c.in-Ok.bits).0 refl))
+    (received_from c.args.grid.now c.args.watch.now c.in-Ok.bits c.scramble-bits.result c.scramble-bits.ensures
+    ((c.in-Ok.ensures.bits c.in-Ok.bits).0 refl))
     told.0 told.1

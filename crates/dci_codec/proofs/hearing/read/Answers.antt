@@ -1,5 +1,5 @@
 use Rattle.std.proofs.Common.{refl, sym, ◌∙◌}
-use Rattle.dci_codec.proofs.Readings.{none-read, none-unfit, none-unread}
+use Rattle.dci_codec.proofs.Readings.{none-read, none_unfit, none-unread}
 use Rattle.dci_codec.proofs.hearing.read.Goals as goal
 use Rattle.dci_codec.proofs.hearing.read.Goals.{then-fits+in_default, else-fits}
 
@@ -10,9 +10,10 @@ loop-format-preserved c =
     let at = c.loop-format.format-index in
     elim c.if-fits.branch [
       | then-fits+in_default k ↦ none-unread w payload at _ c.loop-format.invariant refl c.requires.size k.in_default.ensures
-      | else-fits k ↦ none-unfit w payload at _ c.loop-format.invariant refl (sym c.fits.ensures ∙ k.if-fits.false)
+      | else-fits k ↦ none_unfit w payload at _ c.loop-format.invariant refl (sym c.fits.ensures ∙ k.if-fits.false)
     ]
 
 pub returns : goal.returns
 returns c =
-    none-read c.args.watch.now c.args.number c.args.payload.now c.loop-format.format-index c.loop-format-test.false c.loop-format.invariant
+    none-read c.args.watch.now c.args.number c.args.payload.now c.loop-format.format-index c.loop-format-test.false
+    c.loop-format.invariant

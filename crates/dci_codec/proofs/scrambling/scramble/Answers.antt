@@ -1,6 +1,6 @@
 use Rattle.std.proofs.Common.{◌+◌, ◌∙◌, Bool, ap, arith, length, length-append}
 use Rattle.gold_scrambler.specs.Gold.{gold}
-use Rattle.dci_codec.proofs.Scrambles.{scrambled-more}
+use Rattle.dci_codec.proofs.Scrambles.{scrambled_more}
 use Rattle.dci_codec.proofs.scrambling.scramble.Goals as goal
 
 pub loop-at-preserved : goal.loop-at-preserved
@@ -12,5 +12,7 @@ loop-at-preserved c =
       start = c.next_bit.ensures.c_init ∙ l.invariant.start;
       place = c.next_bit.ensures.at ∙ ap (λ n. n + 1) l.invariant.place;
       size = omega (arith, ap length c.push.ensures, length-append {A = Bool});
-      sums = scrambled-more a.c_init a.bits.now l.sum l.at c.push.new.self c.get.result c.next_bit.result l.invariant.sums c.push.ensures c.get.ensures bit;
+      sums =
+          scrambled_more a.c_init a.bits.now l.sum l.at c.push.new.self c.get.result c.next_bit.result l.invariant.sums
+          c.push.ensures c.get.ensures bit;
     }

@@ -9,6 +9,8 @@ put_bits-requires-clause-bits c =
 
 pub returns-clause-written : goal.returns-clause-written
 returns-clause-written c =
-    payload_written c.args.tables.now c.args.watch.now c.args.payload.now c.attach-block.result c.encode.result c.scramble-bits.result
-    c.args.grid.now c.put_bits.new.grid c.attach-block.ensures.block (c.encode.ensures.code ∙ c.code_at-code.ensures.code c.attach-block.result)
+    payload_written c.args.tables.now c.args.watch.now c.args.payload.now c.attach-block.result c.encode.result
+    c.scramble-bits.result
+    c.args.grid.now c.put_bits.new.grid c.attach-block.ensures.block
+    (c.encode.ensures.code ∙ c.code_at-code.ensures.code c.attach-block.result)
     c.scramble-bits.ensures c.put_bits.ensures.grid

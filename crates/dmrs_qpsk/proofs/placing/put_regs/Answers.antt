@@ -5,5 +5,5 @@ use Rattle.dmrs_qpsk.proofs.placing.put_regs.Goals as goal
 pub loop-j-preserved : goal.loop-j-preserved
 loop-j-preserved c =
     let a = c.args in
-    one_reg_more a.first a.id a.regs.now a.bits.now c.loop-j.j a.grid.now c.loop-j.grid c.put_reg.new.grid c.requires.regs c.requires.inside
+    one_reg_more a.first a.id a.regs.now a.bits.now c.loop-j.j a.grid.now c.loop-j.grid c.put_reg.new.grid c.requires.regs
     (omega arith) c.loop-j.invariant c.put_reg.ensures

@@ -1,4 +1,4 @@
-use Rattle.dmrs_qpsk.specs.Taken.{ArePointsTaken}
+use Rattle.dmrs_qpsk.proofs.PointsRead.{ArePointsTaken}
 use Rattle.dmrs_qpsk.proofs.taking.take_regs.Given as goal
 
 abbrev pub invariant-loop-place : goal.invariant-loop-place
