@@ -1,50 +1,17 @@
 -- The grids with no point: each of them is a grid, and each list of numbers that a grid can have is that of one of them.
-use Rattle.std.proofs.Common.{◌≡◌, ℕ, zero, suc, ◌+◌, ◌-◌, ◌*◌, ◌^◌, ◌<◌, ◌≤◌, inl, inr, List, [], ◌∷◌, map, refl, sym, ◌∙◌, ap, subst, arith}
-use Rattle.std.specs.List.{range_with_len, flat_map, Contains}
-use Rattle.std.proofs.lemmas.List.{length-map, get_or-map, length-replicate}
-use Rattle.std.proofs.lemmas.List.Elements.{Contains-append_left, Contains-append_right, Contains-append_cases}
-use Rattle.std.proofs.lemmas.List.FromFn.{length-range_with_len, get_or-range_with_len}
+use Rattle.std.proofs.Common.{◌≡◌, ℕ, ◌+◌, ◌*◌, ◌<◌, ◌≤◌, subst, sym, arith}
+use Rattle.std.specs.List.{range_with_len}
+use Rattle.std.proofs.lemmas.List.{length-replicate}
+use Rattle.list_facts.proofs.Members.{IsIn, in_map, map_in, in_flat_map, flat_map_in, in_range, range_in}
 use Rattle.slot_grid.specs.declared.places.Point.TheVariants.{Empty}
-use Rattle.slot_grid.specs.Grid.{GridValue, IsGrid}
+use Rattle.slot_grid.specs.Grid.{GridValue, IsGrid, slots_in_frame}
 use Rattle.slot_grid.specs.Image.{blank_grid}
-use Rattle.grid_file.specs.FoundGrid.{blanks_below, blank_grids}
-use Rattle.grid_file.proofs.SharedTexts.{blank_of}
+use Rattle.grid_file.specs.FoundGrid.{blanks_of_slot, blanks_of_frame, blanks_of_numerology, blanks_below, blank_grids}
+use Rattle.grid_file.specs.Ranges.{past_numerologies, past_frames, least_blocks, block_counts}
 
-pub mapped_has : {X Y : Type 0} (f : X → Y) (xs : List X) (x : X) → Contains xs x → Contains (map f xs) (f x)
-mapped_has f xs x h = (h.0, omega (arith, length-map xs f, h.1), get_or-map f xs h.0 x (f x) h.1 ∙ ap f h.2)
-
-flat_has : {X Y : Type 0} (f : X → List Y) (xs : List X) (x : X) (y : Y) → Contains xs x → Contains (f x) y → Contains (flat_map f xs) y
-flat_has f [] x y h within = absurd (omega (arith, h.1))
-flat_has {Y = Y} f (z ∷ zs) x y (zero, l, e) within = Contains-append_left (f z) (flat_map f zs) y (subst (λ v. Contains (f v) y) (sym e) within)
-flat_has f (z ∷ zs) x y (suc k, l, e) within = Contains-append_right (f z) (flat_map f zs) y (flat_has f zs x y (k, omega arith, e) within)
-
-range_has : (first count n : ℕ) → first ≤ n → n < first + count → Contains (range_with_len first count) n
-range_has first count n h k =
-    let at : first + (n - first) ≡ n = omega arith in
-    (n - first, omega (arith, length-range_with_len first count), get_or-range_with_len first count (n - first) n (omega arith) ∙ at)
-
-pub mapped_from : {X Y : Type 0} (f : X → Y) (xs : List X) (y : Y) → Contains (map f xs) y → (x : X) × Contains xs x × (f x ≡ y)
-mapped_from f [] y h = absurd (omega (arith, h.1))
-mapped_from f (z ∷ zs) y (zero, l, e) = (z, (0, omega arith, refl), e)
-mapped_from f (z ∷ zs) y (suc k, l, e) =
-    let (x, within, is) = mapped_from f zs y (k, omega arith, e) in
-    (x, (suc within.0, omega (arith, within.1), within.2), is)
-
-flat_from : {X Y : Type 0} (f : X → List Y) (xs : List X) (y : Y) → Contains (flat_map f xs) y → (x : X) × Contains xs x × Contains (f x) y
-flat_from f [] y h = absurd (omega (arith, h.1))
-flat_from f (z ∷ zs) y h =
-    elim (Contains-append_cases (f z) (flat_map f zs) y h) [
-      | inl here ↦ (z, (0, omega arith, refl), here)
-      | inr later ↦
-          let (x, within, is) = flat_from f zs y later in
-          (x, (suc within.0, omega (arith, within.1), within.2), is)
-    ]
-
-range_from : (first count n : ℕ) → Contains (range_with_len first count) n → (first ≤ n) × (n < first + count)
-range_from first count n (k, l, e) =
-    let inside : k < count = omega (arith, length-range_with_len first count) in
-    let at : first + k ≡ n = sym (get_or-range_with_len first count k n inside) ∙ e in
-    (omega arith, omega arith)
+-- the grid of the same numbers with no point
+abbrev pub blank_of : GridValue → GridValue
+blank_of grid = blank_grid grid.mu grid.frame grid.slot grid.blocks
 
 -- the numbers of a grid with no point
 record AreNumbers (numerologies frames sizes : ℕ) (blank : GridValue) : Type 0 where
@@ -54,54 +21,53 @@ record AreNumbers (numerologies frames sizes : ℕ) (blank : GridValue) : Type 0
   blocks : ℕ
   mu_below : mu < numerologies
   frame_below : frame < frames
-  slot_below : slot < 10 * 2 ^ mu
-  blocks_least : 6 ≤ blocks
-  blocks_below : blocks < 6 + sizes
-  is : blank_grid mu frame slot blocks ≡ blank
+  slot_below : slot < slots_in_frame mu
+  blocks_least : least_blocks ≤ blocks
+  blocks_below : blocks < least_blocks + sizes
+  is : blank ≡ blank_grid mu frame slot blocks
 
-blank_among : (numerologies frames sizes mu frame slot blocks : ℕ) → mu < numerologies → frame < frames → slot < 10 * 2 ^ mu → 6 ≤ blocks
-    → blocks < 6 + sizes → Contains (blanks_below numerologies frames sizes) (blank_grid mu frame slot blocks)
+-- a grid with no point is listed with those of its slot, these with those of its frame, and these with those of its numerology
+blank_among : (numerologies frames sizes mu frame slot blocks : ℕ) → mu < numerologies → frame < frames → slot < slots_in_frame mu
+    → least_blocks ≤ blocks → blocks < least_blocks + sizes
+    → IsIn (blank_grid mu frame slot blocks) (blanks_below numerologies frames sizes)
 unfolding blanks_below
 blank_among numerologies frames sizes mu frame slot blocks h k l m n =
-    let of_slot : ℕ → ℕ → ℕ → List GridValue = λ mu frame slot. map (λ n. blank_grid mu frame slot n) (range_with_len 6 sizes) in
-    let of_frame : ℕ → ℕ → List GridValue = λ mu frame. flat_map (of_slot mu frame) (range_with_len 0 (10 * 2 ^ mu)) in
-    let of_mu : ℕ → List GridValue = λ mu. flat_map (of_frame mu) (range_with_len 0 frames) in
     let blank = blank_grid mu frame slot blocks in
-    flat_has of_mu (range_with_len 0 numerologies) mu blank (range_has 0 numerologies mu (omega arith) (omega arith))
-    (flat_has (of_frame mu) (range_with_len 0 frames) frame blank (range_has 0 frames frame (omega arith) (omega arith))
-    (flat_has (of_slot mu frame) (range_with_len 0 (10 * 2 ^ mu)) slot blank (range_has 0 (10 * 2 ^ mu) slot (omega arith) (omega arith))
-    (mapped_has (λ n. blank_grid mu frame slot n) (range_with_len 6 sizes) blocks (range_has 6 sizes blocks m n))))
+    let slots = slots_in_frame mu in
+    flat_map_in (blanks_of_numerology frames sizes) mu blank (range_with_len 0 numerologies)
+    (range_in mu 0 numerologies (omega arith) (omega arith))
+    (flat_map_in (blanks_of_frame sizes mu) frame blank (range_with_len 0 frames)
+    (range_in frame 0 frames (omega arith) (omega arith))
+    (flat_map_in (blanks_of_slot sizes mu frame) slot blank (range_with_len 0 slots)
+    (range_in slot 0 slots (omega arith) (omega arith))
+    (map_in (λ b. blank_grid mu frame slot b) blocks (range_with_len least_blocks sizes)
+    (range_in blocks least_blocks sizes m n))))
 
-blank_from : (numerologies frames sizes : ℕ) (blank : GridValue) → Contains (blanks_below numerologies frames sizes) blank
+blank_from : (numerologies frames sizes : ℕ) (blank : GridValue) → IsIn blank (blanks_below numerologies frames sizes)
     → AreNumbers numerologies frames sizes blank
 unfolding blanks_below
 blank_from numerologies frames sizes blank h =
-    let of_slot : ℕ → ℕ → ℕ → List GridValue = λ mu frame slot. map (λ n. blank_grid mu frame slot n) (range_with_len 6 sizes) in
-    let of_frame : ℕ → ℕ → List GridValue = λ mu frame. flat_map (of_slot mu frame) (range_with_len 0 (10 * 2 ^ mu)) in
-    let of_mu : ℕ → List GridValue = λ mu. flat_map (of_frame mu) (range_with_len 0 frames) in
-    let (mu, mus, in_mu) = flat_from of_mu (range_with_len 0 numerologies) blank h in
-    let (frame, all_frames, in_frame) = flat_from (of_frame mu) (range_with_len 0 frames) blank in_mu in
-    let (slot, slots, in_slot) = flat_from (of_slot mu frame) (range_with_len 0 (10 * 2 ^ mu)) blank in_frame in
-    let (blocks, all_sizes, is) = mapped_from (λ n. blank_grid mu frame slot n) (range_with_len 6 sizes) blank in_slot in
-    let mu_in = range_from 0 numerologies mu mus in
-    let frame_in = range_from 0 frames frame all_frames in
-    let slot_in = range_from 0 (10 * 2 ^ mu) slot slots in
-    let blocks_in = range_from 6 sizes blocks all_sizes in
+    let (mu, mus, in_mu) = in_flat_map (blanks_of_numerology frames sizes) blank (range_with_len 0 numerologies) h in
+    let (frame, all_frames, in_frame) = in_flat_map (blanks_of_frame sizes mu) blank (range_with_len 0 frames) in_mu in
+    let (slot, slots, in_slot) =
+    in_flat_map (blanks_of_slot sizes mu frame) blank (range_with_len 0 (slots_in_frame mu)) in_frame in
+    let (blocks, all_sizes, is) = in_map (λ b. blank_grid mu frame slot b) blank (range_with_len least_blocks sizes) in_slot in
     record {
       mu = mu;
       frame = frame;
       slot = slot;
       blocks = blocks;
-      mu_below = omega (arith, mu_in.1);
-      frame_below = omega (arith, frame_in.1);
-      slot_below = omega (arith, slot_in.1);
-      blocks_least = blocks_in.0;
-      blocks_below = blocks_in.1;
+      mu_below = omega (arith, in_range mu 0 numerologies mus);
+      frame_below = omega (arith, in_range frame 0 frames all_frames);
+      slot_below = omega (arith, in_range slot 0 (slots_in_frame mu) slots);
+      blocks_least = (in_range blocks least_blocks sizes all_sizes).0;
+      blocks_below = (in_range blocks least_blocks sizes all_sizes).1;
       is = is;
     }
 
 -- a grid with no point is a grid
-pub blank_is : (mu frame slot blocks : ℕ) → mu ≤ 3 → frame ≤ 1023 → slot < 10 * 2 ^ mu → 6 ≤ blocks → blocks ≤ 275 → IsGrid (blank_grid mu frame slot blocks)
+pub blank_is : (mu frame slot blocks : ℕ) → mu ≤ 3 → frame ≤ 1023 → slot < slots_in_frame mu → 6 ≤ blocks → blocks ≤ 275
+    → IsGrid (blank_grid mu frame slot blocks)
 blank_is mu frame slot blocks h k l m n = record {
   mu_most = h;
   frame_most = k;
@@ -112,17 +78,17 @@ blank_is mu frame slot blocks h k l m n = record {
 }
 
 -- there is one with the numbers of each grid
-pub every_blank : (grid : GridValue) → IsGrid grid → Contains blank_grids (blank_of grid)
+pub every_blank : (grid : GridValue) → IsGrid grid → IsIn (blank_of grid) blank_grids
 unfolding blank_grids
 every_blank grid legal =
-    blank_among 4 1024 270 grid.mu grid.frame grid.slot grid.blocks (omega (arith, legal.mu_most)) (omega (arith, legal.frame_most)) legal.slot_below
-    legal.blocks_least (omega (arith, legal.blocks_most))
+    blank_among past_numerologies past_frames block_counts grid.mu grid.frame grid.slot grid.blocks (omega (arith, legal.mu_most))
+    (omega (arith, legal.frame_most)) legal.slot_below legal.blocks_least (omega (arith, legal.blocks_most))
 
 -- each of them is a grid
-pub blanks_are : (blank : GridValue) → Contains blank_grids blank → IsGrid blank
+pub blanks_are : (blank : GridValue) → IsIn blank blank_grids → IsGrid blank
 unfolding blank_grids
 blanks_are blank h =
-    let numbers = blank_from 4 1024 270 blank h in
-    subst IsGrid numbers.is
-    (blank_is numbers.mu numbers.frame numbers.slot numbers.blocks (omega (arith, numbers.mu_below)) (omega (arith, numbers.frame_below)) numbers.slot_below
-    numbers.blocks_least (omega (arith, numbers.blocks_below)))
+    let n = blank_from past_numerologies past_frames block_counts blank h in
+    subst IsGrid (sym n.is)
+    (blank_is n.mu n.frame n.slot n.blocks (omega (arith, n.mu_below)) (omega (arith, n.frame_below)) n.slot_below
+    n.blocks_least (omega (arith, n.blocks_below)))

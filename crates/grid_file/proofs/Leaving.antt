@@ -1,5 +1,6 @@
 -- Where bytes leave a set of texts, step by step.
-use Rattle.std.proofs.Common.{◌≡◌, ℕ, ◌+◌, ◌-◌, ◌<◌, ◌≤◌, List, ◌++◌, length, take, refl, sym, ◌∙◌, ap, subst, inl, inr, arith, length-append, append_assoc}
+use Rattle.std.proofs.Common.{◌≡◌, ℕ, ◌+◌, ◌-◌, ◌<◌, ◌≤◌, List, ◌++◌, length, take, refl, sym, ◌∙◌, ap, subst, inl, inr}
+use Rattle.std.proofs.Common.{arith, length-append, append_assoc}
 use Rattle.std.proofs.lemmas.Bool.{cases_lt}
 use Rattle.std.proofs.lemmas.List.{length-take-le, take-take, take-append-le, get_or_append_left, get_or-take}
 use Rattle.std.proofs.Math.Seq.{take-append-add}
@@ -37,10 +38,13 @@ leaves_at IsText bytes place within begins blocked = record {
 -- what follows a front of the texts of one set are the texts of another, as far as the bytes go
 pub record Follows (IsText IsRest : List ℕ → Type 0) (front bytes : List ℕ) : Type 0 where
   pub into : (text : List ℕ) → IsRest text → IsText (front ++ text)
-  pub back : (n : ℕ) (rest : List ℕ) → 0 < n → n ≤ length bytes → IsText (front ++ (take n bytes ++ rest)) → IsRest (take n bytes ++ rest)
+  pub back : (n : ℕ) (rest : List ℕ) → 0 < n → n ≤ length bytes → IsText (front ++ (take n bytes ++ rest))
+      → IsRest (take n bytes ++ rest)
   pub whole : IsText (front ++ bytes) → IsRest bytes
 
-pub leaves_after : (IsText IsRest : List ℕ → Type 0) (front bytes : List ℕ) (place : ℕ) → Follows IsText IsRest front bytes → LeavesAt IsRest bytes place
+-- bytes that leave what follows a front leave, behind it, the texts with the front
+pub leaves_after : (IsText IsRest : List ℕ → Type 0) (front bytes : List ℕ) (place : ℕ) → Follows IsText IsRest front bytes
+    → LeavesAt IsRest bytes place
     → LeavesAt IsText (front ++ bytes) (length front + place)
 leaves_after IsText IsRest front bytes place follows leaves =
     let size : length (front ++ bytes) ≡ length front + length bytes = length-append front bytes in
@@ -48,15 +52,20 @@ leaves_after IsText IsRest front bytes place follows leaves =
       no_text = λ is. leaves.no_text (follows.whole is);
       within = omega (arith, leaves.within);
       begins =
-          let (rest, is) = leaves.begins in
-          (rest, subst IsText (sym (append_assoc front (take place bytes) rest) ∙ ap (λ xs. xs ++ rest) (sym (take-append-add front bytes place))) (follows.into (take place bytes ++ rest) is));
+          let (rest, is) = leaves.begins in (
+            rest,
+            subst IsText (sym (append_assoc front (take place bytes) rest)
+                ∙ ap (λ xs. xs ++ rest) (sym (take-append-add front bytes place))) (follows.into (take place bytes ++ rest) is),
+          );
       longest = λ n most some.
           elim (cases_lt (length front) n) as (λ _. n ≤ length front + place) [
             | inl less ↦
                 let m = n - length front in
                 let here : length front + m ≡ n = omega arith in
                 let text : IsText (front ++ (take m bytes ++ some.0)) =
-                subst IsText (ap (λ i. take i (front ++ bytes) ++ some.0) (sym here) ∙ ap (λ xs. xs ++ some.0) (take-append-add front bytes m) ∙ append_assoc front (take m bytes) some.0) some.1 in
+                subst IsText (ap (λ i. take i (front ++ bytes) ++ some.0) (sym here)
+                ∙ ap (λ xs. xs ++ some.0) (take-append-add front bytes m) ∙ append_assoc front (take m bytes) some.0)
+                some.1 in
                 let far = leaves.longest m (omega arith) (some.0, follows.back m some.0 (omega arith) (omega arith) text) in
                 omega arith
             | inr h ↦ omega arith

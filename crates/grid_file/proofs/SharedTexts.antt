@@ -1,18 +1,23 @@
--- A text is the bytes' own as far as it goes: the grid that bytes place shares as many first bytes with them as any grid of its numbers does.
-use Rattle.std.proofs.Common.{◌≡◌, ℕ, zero, suc, ◌+◌, ◌-◌, ◌*◌, ◌/◌, ◌%◌, ◌<◌, ◌≤◌, ◌==◌, inl, inr, true, false, Bool, cond, unwrap_or, List, [], ◌∷◌, ◌++◌, codes, length, take, get_or, refl, sym, ◌∙◌, ap, subst, arith, length-append, append_assoc}
+-- A text is the bytes' own as far as it goes: the grid that bytes place shares as many first bytes with them as any grid of its
+-- numbers does.
+use Rattle.std.proofs.Common.{◌≡◌, ℕ, zero, suc, ◌+◌, ◌-◌, ◌*◌, ◌/◌, ◌%◌, ◌<◌, ◌≤◌}
+use Rattle.std.proofs.Common.{◌==◌, inl, inr, unwrap_or, List, [], ◌∷◌, ◌++◌, codes, length}
+use Rattle.std.proofs.Common.{take, get_or, refl, sym, ◌∙◌, ap, subst, arith, length-append, append_assoc}
 use Rattle.std.specs.List.{range_with_len, flat_map, common_prefix_len}
 use Rattle.std.specs.Fmt.{decimal}
 use Rattle.std.proofs.lemmas.Bool.{cases_lt}
-use Rattle.std.proofs.lemmas.Bool.Decides.{nat_tests}
+use Rattle.std.proofs.lemmas.Nat.{div_below, mod_below, div-add-mod'}
 use Rattle.std.proofs.lemmas.List.{length-take-le, get_or_append_left, get_or-append_right, get_or-append-add, get_or-take}
+use Rattle.list_facts.proofs.Lists.{shared_least}
 use Rattle.slot_grid.specs.Grid.{GridValue, IsGrid, point_at}
-use Rattle.slot_grid.specs.Image.{blank_grid, overwritten}
-use Rattle.slot_grid.proofs.Images.{overwritten_is, overwritten-is, point_at-overwritten}
+use Rattle.slot_grid.specs.Image.{overwritten}
+use Rattle.slot_grid.proofs.Images.{overwritten_is, overwritten_is_this, point_at-overwritten}
 use Rattle.grid_file.specs.Bytes.{point_byte, point_of}
 use Rattle.grid_file.specs.FoundGrid.{place_in_text, placed}
-use Rattle.grid_file.specs.GridText.{grid_head, symbol_line, grid_text}
+use Rattle.grid_file.specs.GridText.{grid_head, symbol_line, grid_text, place_in_lines}
 use Rattle.grid_file.specs.Patterns.{Fits, rest_pattern}
 use Rattle.grid_file.specs.Reading.{place_of}
+use Rattle.grid_file.proofs.BlankGrids.{blank_of}
 use Rattle.grid_file.proofs.GridTexts.{rest_text, rest_fits, point_there, fits_plain, no_dot_in_end}
 use Rattle.grid_file.proofs.OneText.{character_at}
 use Rattle.grid_file.proofs.RestTexts.{length-rest_pattern, pattern_begins, break_in_pattern, end_in_pattern}
@@ -20,16 +25,19 @@ use Rattle.grid_file.proofs.RestTexts.{length-rest_pattern, pattern_begins, brea
 -- the head without its last line feed
 unfoldable numbers_text : ℕ → ℕ → ℕ → ℕ → List ℕ
 numbers_text mu frame slot blocks =
-    codes "nrpdcch grid 1\nmu " ++ decimal mu ++ codes " frame " ++ decimal frame ++ codes " slot " ++ decimal slot ++ codes " blocks " ++ decimal blocks
+    codes "nrpdcch grid 1\nmu " ++ decimal mu ++ codes " frame " ++ decimal frame ++ codes " slot " ++ decimal slot
+    ++ codes " blocks " ++ decimal blocks
 
 abbrev numbers_of : GridValue → List ℕ
 numbers_of grid = numbers_text grid.mu grid.frame grid.slot grid.blocks
 
-length-head : (mu frame slot blocks : ℕ) → length (grid_head mu frame slot blocks) ≡ length (numbers_text mu frame slot blocks) + 1
+length_head : (mu frame slot blocks : ℕ)
+    → length (grid_head mu frame slot blocks) ≡ length (numbers_text mu frame slot blocks) + 1
 unfolding grid_head numbers_text
-length-head mu frame slot blocks =
+length_head mu frame slot blocks =
     length-append
-    (codes "nrpdcch grid 1\nmu " ++ decimal mu ++ codes " frame " ++ decimal frame ++ codes " slot " ++ decimal slot ++ codes " blocks " ++ decimal blocks)
+    (codes "nrpdcch grid 1\nmu " ++ decimal mu ++ codes " frame " ++ decimal frame ++ codes " slot " ++ decimal slot
+    ++ codes " blocks " ++ decimal blocks)
     (10 ∷ [])
 
 four_joined : (n x l e : List ℕ) → n ++ x ++ l ++ e ≡ n ++ (x ++ l ++ e)
@@ -39,16 +47,18 @@ text_parts : (grid : GridValue) → grid_text grid ≡ numbers_of grid ++ rest_t
 unfolding grid_text grid_head numbers_text rest_text
 text_parts grid =
     four_joined
-    (codes "nrpdcch grid 1\nmu " ++ decimal grid.mu ++ codes " frame " ++ decimal grid.frame ++ codes " slot " ++ decimal grid.slot ++ codes " blocks " ++ decimal grid.blocks)
+    (codes "nrpdcch grid 1\nmu " ++ decimal grid.mu ++ codes " frame " ++ decimal grid.frame ++ codes " slot "
+    ++ decimal grid.slot ++ codes " blocks " ++ decimal grid.blocks)
     (10 ∷ []) (flat_map (symbol_line grid) (range_with_len 0 14)) (codes "end\n")
 
-places : (head numbers w s c : ℕ) → head ≡ numbers + 1 → head + s * w + c ≡ numbers + (1 + s * w + c)
-places head numbers w s c e = omega arith
+behind_break : (head numbers inner : ℕ) → head ≡ numbers + 1 → head + inner ≡ numbers + (1 + inner)
+behind_break head numbers inner e = omega arith
 
 place_is : (grid : GridValue) (s c : ℕ) → place_in_text grid s c ≡ length (numbers_of grid) + place_of grid.blocks s c
 place_is grid s c =
-    places (length (grid_head grid.mu grid.frame grid.slot grid.blocks)) (length (numbers_of grid)) (12 * grid.blocks + 1) s c
-    (length-head grid.mu grid.frame grid.slot grid.blocks)
+    behind_break (length (grid_head grid.mu grid.frame grid.slot grid.blocks)) (length (numbers_of grid))
+    (place_in_lines grid.blocks s c)
+    (length_head grid.mu grid.frame grid.slot grid.blocks)
 
 -- the character of a place
 character_in_text : (grid : GridValue) (s c : ℕ) → s < 14 → c < 12 * grid.blocks
@@ -59,16 +69,13 @@ character_in_text grid s c h k =
     ∙ get_or-append-add (numbers_of grid) (rest_text grid) (place_of grid.blocks s c) 0
     ∙ character_at grid s c h k
 
--- the grid of the same numbers with no point
-abbrev pub blank_of : GridValue → GridValue
-blank_of grid = blank_grid grid.mu grid.frame grid.slot grid.blocks
-
 -- a grid is placed by its text
 pub placed_of_text : (grid : GridValue) → IsGrid grid → grid ≡ placed (grid_text grid) (blank_of grid)
 unfolding placed
 placed_of_text grid legal =
     let blank = blank_of grid in
-    overwritten-is (λ s c. point_of (get_or (grid_text grid) (place_in_text blank s c) 0)) blank grid refl refl refl refl legal.size
+    overwritten_is_this (λ s c. point_of (get_or (grid_text grid) (place_in_text blank s c) 0)) blank grid refl refl refl
+    refl legal.size
     (λ s c h k.
     sym
     (ap (λ b. unwrap_or (point_of b) (point_at blank s c)) (character_in_text grid s c h k)
@@ -81,7 +88,8 @@ placed_is_grid bytes blank legal = overwritten_is (λ s c. point_of (get_or byte
 
 -- the point that bytes place, where their character stands for one
 point_placed : (bytes : List ℕ) (grid : GridValue) (s c : ℕ) → s < 14 → c < 12 * grid.blocks
-    → get_or bytes (place_in_text grid s c) 0 ≡ point_byte (point_at grid s c) → point_at (placed bytes (blank_of grid)) s c ≡ point_at grid s c
+    → get_or bytes (place_in_text grid s c) 0 ≡ point_byte (point_at grid s c)
+    → point_at (placed bytes (blank_of grid)) s c ≡ point_at grid s c
 unfolding placed
 point_placed bytes grid s c h k e =
     let blank = blank_of grid in
@@ -94,29 +102,21 @@ pub data Spot (blocks place : ℕ) : Type 0 where
   Cell : (s c : ℕ) → s < 14 → c < 12 * blocks → place ≡ place_of blocks s c → Spot blocks place
   Plain : (get_or (rest_pattern blocks) place 0 ≡ 46 → ⊥) → Spot blocks place
 
-row_below : (q w : ℕ) → q < 14 * w → 0 < w → q / w < 14
-row_below q w h k = grind (arith)
-
-column_below : (q w : ℕ) → 0 < w → q % w < w
-column_below q w h = omega arith
-
-row_column : (q w : ℕ) → 0 < w → q ≡ q / w * w + q % w
-row_column q w h = grind (arith)
-
 spot_in_lines : (blocks q : ℕ) → q < 14 * (12 * blocks + 1) → Spot blocks (1 + q)
 spot_in_lines blocks q h =
     let w = 12 * blocks + 1 in
     let s = q / w in
     let c = q % w in
-    let row : s < 14 = row_below q w h (omega arith) in
-    let column : c < w = column_below q w (omega arith) in
-    let is : q ≡ s * w + c = row_column q w (omega arith) in
+    let row : s < 14 = div_below q w 14 (omega arith) h in
+    let column : c < w = mod_below q w (omega arith) in
+    let is : q ≡ s * w + c = sym (div-add-mod' q w) in
     elim (cases_lt c (12 * blocks)) [
       | inl less ↦ Cell s c row less (omega arith)
       | inr most ↦
           let last : c ≡ 12 * blocks = omega arith in
           let place : 1 + q ≡ place_of blocks s (12 * blocks) = omega arith in
-          let byte : get_or (rest_pattern blocks) (1 + q) 0 ≡ 10 = ap (λ i. get_or (rest_pattern blocks) i 0) place ∙ break_in_pattern blocks s row in
+          let byte : get_or (rest_pattern blocks) (1 + q) 0 ≡ 10 = ap (λ i. get_or (rest_pattern blocks) i 0) place
+          ∙ break_in_pattern blocks s row in
           Plain (λ e. omega arith)
     ]
 
@@ -136,7 +136,8 @@ spot_at blocks (suc q) h =
     ]
 
 -- a character of a grid is told by its pattern and, where this has a point, by the point
-same_character : (a b : GridValue) (blocks place : ℕ) → Fits (rest_pattern blocks) (rest_text a) → Fits (rest_pattern blocks) (rest_text b)
+same_character : (a b : GridValue) (blocks place : ℕ) → Fits (rest_pattern blocks) (rest_text a)
+    → Fits (rest_pattern blocks) (rest_text b)
     → a.blocks ≡ blocks → b.blocks ≡ blocks → place < length (rest_pattern blocks)
     → ((s c : ℕ) → s < 14 → c < 12 * blocks → place ≡ place_of blocks s c → point_at a s c ≡ point_at b s c) → Spot blocks place
     → get_or (rest_text a) place 0 ≡ get_or (rest_text b) place 0
@@ -160,11 +161,13 @@ numbers_placed bytes grid = refl
 placed_parts : (bytes : List ℕ) (grid : GridValue)
     → grid_text (placed bytes (blank_of grid)) ≡ numbers_of grid ++ rest_text (placed bytes (blank_of grid))
 placed_parts bytes grid =
-    text_parts (placed bytes (blank_of grid)) ∙ ap (λ front. front ++ rest_text (placed bytes (blank_of grid))) (numbers_placed bytes grid)
+    text_parts (placed bytes (blank_of grid))
+    ∙ ap (λ front. front ++ rest_text (placed bytes (blank_of grid))) (numbers_placed bytes grid)
 
 placed_fits : (bytes : List ℕ) (grid : GridValue) → Fits (rest_pattern grid.blocks) (rest_text (placed bytes (blank_of grid)))
 placed_fits bytes grid =
-    subst (λ n. Fits (rest_pattern n) (rest_text (placed bytes (blank_of grid)))) (blocks_placed bytes grid) (rest_fits (placed bytes (blank_of grid)))
+    subst (λ n. Fits (rest_pattern n) (rest_text (placed bytes (blank_of grid)))) (blocks_placed bytes grid)
+    (rest_fits (placed bytes (blank_of grid)))
 
 length-placed : (bytes : List ℕ) (grid : GridValue) → length (grid_text (placed bytes (blank_of grid))) ≡ length (grid_text grid)
 length-placed bytes grid =
@@ -175,7 +178,8 @@ length-placed bytes grid =
     ∙ ap length (sym (text_parts grid))
 
 -- a character of what bytes place is that of a grid of the same numbers whose text is the bytes there
-shared_character : (bytes : List ℕ) (grid : GridValue) (i : ℕ) → get_or (grid_text grid) i 0 ≡ get_or bytes i 0 → i < length (grid_text grid)
+shared_character : (bytes : List ℕ) (grid : GridValue) (i : ℕ) → get_or (grid_text grid) i 0 ≡ get_or bytes i 0
+    → i < length (grid_text grid)
     → get_or (grid_text (placed bytes (blank_of grid))) i 0 ≡ get_or (grid_text grid) i 0
 shared_character bytes grid i same inside =
     let own = placed bytes (blank_of grid) in
@@ -186,7 +190,8 @@ shared_character bytes grid i same inside =
       | inl less ↦ get_or_append_left front (rest_text own) 0 i less ∙ sym (get_or_append_left front (rest_text grid) 0 i less)
       | inr most ↦
           let place = i - length front in
-          let size : length (grid_text grid) ≡ length front + length (rest_text grid) = ap length text ∙ length-append front (rest_text grid) in
+          let size : length (grid_text grid) ≡ length front + length (rest_text grid) = ap length text
+          ∙ length-append front (rest_text grid) in
           let fit = rest_fits grid in
           let there : place < length (rest_pattern grid.blocks) = omega (arith, fit.size) in
           get_or-append_right front (rest_text own) (length front) i 0 refl most
@@ -205,44 +210,15 @@ shared_character bytes grid i same inside =
     ]
     ∙ ap (λ (t : List ℕ). get_or t i 0) (sym text)
 
-equal_bytes : (a b : ℕ) → a ≡ b → (a == b) ≡ true
-equal_bytes a b e = grind (arith, nat_tests)
-
-same_bytes : (a b : ℕ) → (a == b) ≡ true → a ≡ b
-same_bytes a b e = grind (arith, nat_tests)
-
--- lists that are the same below n share n first bytes
-shares_least : (xs ys : List ℕ) (n : ℕ) → n ≤ length xs → n ≤ length ys → ((i : ℕ) → i < n → get_or xs i 0 ≡ get_or ys i 0)
-    → n ≤ common_prefix_len ◌==◌ xs ys
-shares_least [] ys n h k same = omega arith
-shares_least (x ∷ xs) [] n h k same = omega arith
-shares_least (x ∷ xs) (y ∷ ys) zero h k same = omega arith
-shares_least (x ∷ xs) (y ∷ ys) (suc n) h k same =
-    let first : (x == y) ≡ true = equal_bytes x y (same 0 (omega arith)) in
-    let rest : n ≤ common_prefix_len ◌==◌ xs ys = shares_least xs ys n (omega arith) (omega arith) (λ i l. same (suc i) (omega arith)) in
-    subst (λ b. suc n ≤ cond b (1 + common_prefix_len ◌==◌ xs ys) 0) (sym first) (omega arith)
-
-one_more : (n : ℕ) → 1 + n ≡ suc n
-one_more n = omega arith
-
-shares_cons : (b : Bool) (x y n : ℕ) (xs ys : List ℕ) → (b ≡ true → x ≡ y) → take n xs ≡ take n ys
-    → take (cond b (1 + n) 0) (x ∷ xs) ≡ take (cond b (1 + n) 0) (y ∷ ys)
-shares_cons true x y n xs ys h e = rw (one_more n) (ap (λ z. z ∷ take n xs) (h refl) ∙ ap (λ zs. y ∷ zs) e)
-shares_cons false x y n xs ys h e = refl
-
--- the bytes that two lists share are the same
-pub shares_same : (xs ys : List ℕ) → take (common_prefix_len ◌==◌ xs ys) xs ≡ take (common_prefix_len ◌==◌ xs ys) ys
-shares_same [] ys = refl
-shares_same (x ∷ xs) [] = refl
-shares_same (x ∷ xs) (y ∷ ys) = shares_cons (x == y) x y (common_prefix_len ◌==◌ xs ys) xs ys (same_bytes x y) (shares_same xs ys)
-
--- where some grid's text begins with the first n of the bytes, the grid of its numbers that the bytes place shares n bytes with them
+-- where some grid's text begins with the first n of the bytes, the grid of its numbers that the bytes place shares n bytes with
+-- them
 pub shares_as_far : (bytes rest : List ℕ) (n : ℕ) (grid : GridValue) → n ≤ length bytes → grid_text grid ≡ take n bytes ++ rest
     → n ≤ common_prefix_len ◌==◌ (grid_text (placed bytes (blank_of grid))) bytes
 shares_as_far bytes rest n grid most e =
     let front : length (take n bytes) ≡ n = length-take-le n bytes most in
-    let long : length (grid_text grid) ≡ n + length rest = ap length e ∙ length-append (take n bytes) rest ∙ ap (λ m. m + length rest) front in
-    shares_least (grid_text (placed bytes (blank_of grid))) bytes n (omega (arith, length-placed bytes grid)) most
+    let long : length (grid_text grid) ≡ n + length rest = ap length e ∙ length-append (take n bytes) rest
+    ∙ ap (λ m. m + length rest) front in
+    shared_least (grid_text (placed bytes (blank_of grid))) bytes n (omega (arith, length-placed bytes grid)) most
     (λ i l.
     let same : get_or (grid_text grid) i 0 ≡ get_or bytes i 0 =
     ap (λ (t : List ℕ). get_or t i 0) e ∙ get_or_append_left (take n bytes) rest 0 i (omega arith) ∙ get_or-take n bytes i 0 l in

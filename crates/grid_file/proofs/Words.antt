@@ -1,5 +1,6 @@
 -- Words, byte by byte, and a word before a number.
-use Rattle.std.proofs.Common.{◌≡◌, ℕ, ◌+◌, ◌-◌, ◌<◌, ◌≤◌, List, [], ◌++◌, length, take, drop, sym, ◌∙◌, ap, subst, arith, length-append, append_assoc}
+use Rattle.std.proofs.Common.{◌≡◌, ℕ, ◌+◌, ◌-◌, ◌<◌, ◌≤◌, List, [], ◌++◌, length, take, drop, sym, ◌∙◌, ap, subst}
+use Rattle.std.proofs.Common.{arith, length-append, append_assoc}
 use Rattle.std.proofs.Math.Seq.{take-append-add}
 use Rattle.std.proofs.lemmas.List.{append_cancel_left, length-drop, take-append-drop, get_or_append_left, get_or-append-add}
 use Rattle.std.specs.Fmt.{decimal}
@@ -11,7 +12,8 @@ pub record WordSoFar (bytes : List ℕ) (at : ℕ) (word : List ℕ) (n : ℕ) :
   pub same : take n (drop at bytes) ≡ take n word
 
 -- bytes that leave the word leave the field
-pub word_leaves : (word : List ℕ) (least limit : ℕ) (bytes : List ℕ) (at place : ℕ) → least < limit → LeavesWord word bytes at place
+pub word_leaves : (word : List ℕ) (least limit : ℕ) (bytes : List ℕ) (at place : ℕ) → least < limit
+    → LeavesWord word bytes at place
     → LeavesFieldAt word least limit bytes at place
 word_leaves word least limit bytes at place range leaves =
     let k = place - at in
@@ -25,20 +27,23 @@ word_leaves word least limit bytes at place range leaves =
           drop k word ++ decimal least,
           omega arith,
           range,
-          ap (λ xs. xs ++ decimal least) (sym (take-append-drop k word)) ∙ append_assoc (take k word) (drop k word) (decimal least)
+          ap (λ xs. xs ++ decimal least) (sym (take-append-drop k word))
+              ∙ append_assoc (take k word) (drop k word) (decimal least)
               ∙ ap (λ xs. xs ++ (drop k word ++ decimal least)) (sym leaves.before),
         );
         blocked = λ value rest low high ends agrees.
             let size = length-append word (decimal value) in
             let whole = length-append (word ++ decimal value) rest in
             let here =
-            get_or_append_left (word ++ decimal value) rest 0 k (omega (arith, leaves.inside)) ∙ get_or_append_left word (decimal value) 0 k leaves.inside in
+            get_or_append_left (word ++ decimal value) rest 0 k (omega (arith, leaves.inside))
+            ∙ get_or_append_left word (decimal value) 0 k leaves.inside in
             let long = agrees.longer (omega (arith, leaves.inside)) in
             leaves.there (omega (arith, leaves.least)) (sym agrees.there ∙ here);
       };
     }
 
-agrees_behind : (word text bytes : List ℕ) (place : ℕ) → AgreesPast (length word + place) (word ++ text) (word ++ bytes) → AgreesPast place text bytes
+agrees_behind : (word text bytes : List ℕ) (place : ℕ) → AgreesPast (length word + place) (word ++ text) (word ++ bytes)
+    → AgreesPast place text bytes
 agrees_behind word text bytes place agrees =
     let one = length-append word text in
     let two = length-append word bytes in
@@ -62,7 +67,8 @@ leaves_behind word least limit bytes place leaves = record {
         rest,
         low,
         high,
-        ap (λ xs. word ++ xs) is ∙ sym (append_assoc word (take place bytes) rest) ∙ ap (λ xs. xs ++ rest) (sym (take-append-add word bytes place)),
+        ap (λ xs. word ++ xs) is ∙ sym (append_assoc word (take place bytes) rest)
+            ∙ ap (λ xs. xs ++ rest) (sym (take-append-add word bytes place)),
       );
   blocked = λ value rest low high ends agrees.
       leaves.blocked value rest low high ends
@@ -70,6 +76,7 @@ leaves_behind word least limit bytes place leaves = record {
       (subst (λ t. AgreesPast (length word + place) t (word ++ bytes)) (append_assoc word (decimal value) rest) agrees));
 }
 
+-- bytes that leave the number behind the word leave the field
 pub leaves_number : (word : List ℕ) (least limit : ℕ) (bytes : List ℕ) (at middle place : ℕ) → IsWord bytes at word middle
     → LeavesFieldAt [] least limit bytes middle place → LeavesFieldAt word least limit bytes at place
 leaves_number word least limit bytes at middle place is leaves =

@@ -15,7 +15,8 @@ point_byte P11 = 51
 abbrev pub point_of : ℕ → Option Point
 point_of byte =
     cond (byte == 46) (Some Empty)
-    (cond (byte == 48) (Some P00) (cond (byte == 49) (Some P01) (cond (byte == 50) (Some P10) (cond (byte == 51) (Some P11) None))))
+    (cond (byte == 48) (Some P00)
+    (cond (byte == 49) (Some P01) (cond (byte == 50) (Some P10) (cond (byte == 51) (Some P11) None))))
 
 -- a byte is a decimal digit
 abbrev pub IsDigit : ℕ → Type 0

@@ -1,4 +1,5 @@
--- A field of the head: a word, and a number in decimal digits without leading zeros.
+-- Of the code, not of the format: how its readers find a field of the head, a word and a number in decimal digits without leading
+-- zeros.
 use Rattle.std.specs.Prelude.{◌≡◌, ℕ, ◌+◌, ◌-◌, ◌*◌, ◌<◌, ◌≤◌, List, ◌++◌, length, take, drop, slice_index}
 use Rattle.std.specs.Fmt.{decimal}
 use Rattle.grid_file.specs.Bytes.{IsDigit}
@@ -7,7 +8,8 @@ use Rattle.grid_file.specs.Bytes.{IsDigit}
 abbrev pub EndsNumber : List ℕ → Type 0
 EndsNumber bytes = IsDigit (slice_index bytes 0) → ⊥
 
--- the numbers from `least` on and below `limit`, of which each shorter one than `least` begins one
+-- the numbers from `least` on and below `limit`, where digits that are too few yet, as a 1 is for a number from 6 on, begin a
+-- number of the range, ten times theirs: so a reader of digits may go on from them
 pub record IsRange (least limit : ℕ) : Type 0 where
   pub some : least < limit
   pub most : limit ≤ 1024
@@ -47,8 +49,10 @@ pub record IsField (word bytes : List ℕ) (at least limit value next : ℕ) : T
 -- `place` is as far as the bytes go with a field whose number is at least `least` and below `limit`
 pub record LeavesField (word : List ℕ) (least limit : ℕ) (bytes : List ℕ) (place : ℕ) : Type 0 where
   pub within : place ≤ length bytes
-  pub begins : (value : ℕ) × (rest : List ℕ) × (least ≤ value) × (value < limit) × (word ++ decimal value ≡ take place bytes ++ rest)
-  pub blocked : (value : ℕ) (rest : List ℕ) → least ≤ value → value < limit → EndsNumber rest → AgreesPast place (word ++ decimal value ++ rest) bytes → ⊥
+  pub begins : (value : ℕ) × (rest : List ℕ) × (least ≤ value) × (value < limit)
+      × (word ++ decimal value ≡ take place bytes ++ rest)
+  pub blocked : (value : ℕ) (rest : List ℕ) → least ≤ value → value < limit → EndsNumber rest
+      → AgreesPast place (word ++ decimal value ++ rest) bytes → ⊥
 
 -- the bytes from `at` on go no further with such a field than to `place`
 pub record LeavesFieldAt (word : List ℕ) (least limit : ℕ) (bytes : List ℕ) (at place : ℕ) : Type 0 where

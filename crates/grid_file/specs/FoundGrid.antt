@@ -1,29 +1,43 @@
--- The reading of a grid as a function of its bytes: of the grids that the bytes place, one for each list of numbers, the one whose text they are.
-use Rattle.std.specs.Prelude.{◌≡◌, ◌↔◌, ℕ, ◌+◌, ◌*◌, ◌^◌, ◌==◌, List, [], ◌∷◌, map, length, max, slice_index, Option, Result, Ok, Err}
-use Rattle.std.specs.List.{range_with_len, flat_map, find, common_prefix_len}
+-- The reading of a grid as a function of its bytes: a name for the one answer, so that what a run is to leave can be a function
+-- of its files. It is never computed. It searches the grids that the bytes place, one for each list of numbers that a grid can
+-- have, for the one whose text they are; `ReadsExactly` says the same in the words of the text.
+use Rattle.std.specs.Prelude.{◌≡◌, ◌↔◌, ℕ, ◌+◌, ◌==◌, List, map, length, max, slice_index, Option, Result, Ok, Err}
+use Rattle.std.specs.List.{range_with_len, flat_map, find, fold, common_prefix_len}
 use Rattle.std.specs.Option.{ok_or}
 use Rattle.std.specs.Str.{bytes_eq}
-use Rattle.slot_grid.specs.Grid.{GridValue}
+use Rattle.slot_grid.specs.Grid.{GridValue, slots_in_frame}
 use Rattle.slot_grid.specs.Image.{blank_grid, overwritten}
 use Rattle.grid_file.specs.declared.fault.GridError.{GridError}
 use Rattle.grid_file.specs.declared.fault.GridError.TheVariants.{Fault, NoMemory}
 use Rattle.grid_file.specs.Bytes.{point_of}
-use Rattle.grid_file.specs.GridText.{grid_head, grid_text, IsGridText, IsTextOf}
+use Rattle.grid_file.specs.GridText.{grid_head, grid_text, place_in_lines, IsGridText, IsTextOf}
 use Rattle.grid_file.specs.LeavingPlace.{LeavesAt}
+use Rattle.grid_file.specs.Ranges.{past_numerologies, past_frames, least_blocks, block_counts}
 
--- the grids with no point at any place whose numerology and frame are below these, and that have `sizes` numbers of blocks from 6 on
+-- the grids of a slot with no point at any place, of `sizes` numbers of blocks
+abbrev pub blanks_of_slot : ℕ → ℕ → ℕ → ℕ → List GridValue
+blanks_of_slot sizes mu frame slot = map (λ blocks. blank_grid mu frame slot blocks) (range_with_len least_blocks sizes)
+
+-- those of each slot of a frame
+abbrev pub blanks_of_frame : ℕ → ℕ → ℕ → List GridValue
+blanks_of_frame sizes mu frame = flat_map (blanks_of_slot sizes mu frame) (range_with_len 0 (slots_in_frame mu))
+
+-- those of each frame below a number
+abbrev pub blanks_of_numerology : ℕ → ℕ → ℕ → List GridValue
+blanks_of_numerology frames sizes mu = flat_map (blanks_of_frame sizes mu) (range_with_len 0 frames)
+
+-- those of each numerology below a number
 unfoldable pub blanks_below : ℕ → ℕ → ℕ → List GridValue
-blanks_below numerologies frames sizes =
-    flat_map (λ mu. flat_map (λ frame. flat_map (λ slot. map (λ n. blank_grid mu frame slot n) (range_with_len 6 sizes)) (range_with_len 0 (10 * 2 ^ mu))) (range_with_len 0 frames)) (range_with_len 0 numerologies)
+blanks_below numerologies frames sizes = flat_map (blanks_of_numerology frames sizes) (range_with_len 0 numerologies)
 
 -- every grid with no point at any place
 unfoldable pub blank_grids : List GridValue
-blank_grids = blanks_below 4 1024 270
+blank_grids = blanks_below past_numerologies past_frames block_counts
 
--- where the character of a symbol and a subcarrier stands in the text of a grid of these numbers: behind the head and the lines of the symbols before
+-- where the character of a symbol and a subcarrier stands in the text of a grid of these numbers
 abbrev pub place_in_text : GridValue → ℕ → ℕ → ℕ
 place_in_text grid symbol subcarrier =
-    length (grid_head grid.mu grid.frame grid.slot grid.blocks) + symbol * (12 * grid.blocks + 1) + subcarrier
+    length (grid_head grid.mu grid.frame grid.slot grid.blocks) + place_in_lines grid.blocks symbol subcarrier
 
 -- the blank grid with the point of its character at each place; a character that stands for no point leaves the place empty
 unfoldable pub placed : List ℕ → GridValue → GridValue
@@ -37,14 +51,9 @@ placed_grids bytes = map (placed bytes) blank_grids
 unfoldable pub grid_found : List ℕ → Option GridValue
 grid_found bytes = find (λ grid. bytes_eq (grid_text grid) bytes) (placed_grids bytes)
 
--- the greatest value of a function on a list, 0 on an empty one
-abbrev pub greatest : (GridValue → ℕ) → List GridValue → ℕ
-greatest f [] = 0
-greatest f (grid ∷ grids) = max (f grid) (greatest f grids)
-
--- how many first bytes are those of some grid's text
+-- how many first bytes are those of some grid's text: the most that one of them shares
 unfoldable pub leaving_place : List ℕ → ℕ
-leaving_place bytes = greatest (λ grid. common_prefix_len ◌==◌ (grid_text grid) bytes) (placed_grids bytes)
+leaving_place bytes = fold max 0 (map (λ grid. common_prefix_len ◌==◌ (grid_text grid) bytes) (placed_grids bytes))
 
 -- the grid whose text the bytes are, or the place where they leave every grid's text
 unfoldable pub reading_of : List ℕ → Result GridValue ℕ

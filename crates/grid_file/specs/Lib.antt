@@ -1,5 +1,6 @@
 pub mod Bytes
 pub mod GridText
+pub mod Ranges
 pub mod LeavingPlace
 pub mod FoundGrid
 pub mod Fields

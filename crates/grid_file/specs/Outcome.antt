@@ -1,4 +1,4 @@
--- What the reading of a grid answers.
+-- What the reading of a grid answers. `IsWhy` is of the code, not of the format.
 use Rattle.std.specs.Prelude.{ℕ, List}
 use Rattle.grid_file.specs.declared.fault.GridError.{GridError}
 use Rattle.grid_file.specs.declared.fault.GridError.TheVariants.{Fault, NoMemory}

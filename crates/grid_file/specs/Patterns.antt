@@ -1,5 +1,7 @@
--- What follows the numbers, as a pattern: a point stands for each character of a point, and each other character for itself.
-use Rattle.std.specs.Prelude.{◌≡◌, ℕ, ◌*◌, ◌<◌, ◌≤◌, ◌==◌, Bool, IsTrue, cond, is_some, List, [], ◌∷◌, ◌++◌, length, replicate, codes, slice_index}
+-- Of the code, not of the format: what follows the numbers, as a pattern. A dot stands for each character of a point, and each
+-- other character for itself.
+use Rattle.std.specs.Prelude.{◌≡◌, ℕ, ◌*◌, ◌<◌, ◌≤◌, ◌==◌, Bool, IsTrue, cond, is_some, List, [], ◌∷◌, ◌++◌, length}
+use Rattle.std.specs.Prelude.{replicate, codes, slice_index}
 use Rattle.std.specs.List.{range_with_len, flat_map}
 use Rattle.grid_file.specs.Bytes.{point_of}
 

@@ -1,5 +1,6 @@
 //! The numbers at the beginning of a grid's text.
-ghost use Rattle.std.specs.Prelude.{◌≡◌, ◌*◌, ◌^◌, ◌≤◌, IfOk, IfErr};
+ghost use Rattle.std.specs.Prelude.{◌≡◌, ◌≤◌, IfOk, IfErr};
+ghost use Rattle.slot_grid.specs.Grid.{slots_in_frame};
 ghost use Rattle.grid_file.specs.Fields.{IsRange};
 ghost use Rattle.grid_file.specs.GridText.{IsGridText};
 ghost use Rattle.grid_file.specs.LeavingPlace.{LeavesAt};
@@ -20,7 +21,7 @@ pub(crate) struct Head {
 /// How many slots a frame has (3GPP TS 38.211, 4.3.2).
 fn slots_in_frame(mu: u16) -> u16
     requires { mu ≤ 3 }
-    ensures value { result ≡ 10 * 2 ^ mu }
+    ensures value { result ≡ slots_in_frame mu }
     ensures range { IsRange 0 result }
 {
     10 << mu
@@ -28,7 +29,7 @@ fn slots_in_frame(mu: u16) -> u16
 
 /// Reads the first two lines without the second one's line feed.
 pub(crate) fn read_head(bytes: &[u8]) -> Result<Head, GridFault>
-    ensures read { IfOk result (λ h. IsHead bytes.now h.mu.value h.mu.next h.frame.value h.frame.next h.slot.value h.slot.next h.blocks.value h.blocks.next) }
+    ensures read { IfOk result (λ h. IsHead bytes.now h) }
     ensures leaves { IfErr result (λ fault. LeavesAt IsGridText bytes.now fault.at) }
 {
     let mu = read_field(bytes, 0, b"nrpdcch grid 1\nmu ", 0, 4)?;

@@ -7,8 +7,8 @@ pub fn one_grid_of_text()
     ensures { OneGridOfText }
 {}
 
-/// The reading that the clause `found` of `read_grid` names gives a grid exactly where the bytes are its text, and a place exactly
-/// where they leave every grid's text there.
+/// The reading that the clause `found` of `read_grid` names gives a grid exactly where the bytes are its text, and a
+/// place exactly where they leave every grid's text there.
 pub fn reads_exactly()
     ensures { ReadsExactly }
 {}

@@ -1,6 +1,7 @@
 //! The lines of points of a grid's text.
 ghost use Rattle.std.specs.Prelude.{◌≡◌, ◌+◌, ◌<◌, ◌≤◌, OnOk, IfErr, length, drop};
-ghost use Rattle.grid_file.specs.Reading.{IsPlaced, IsPlacedTo, KeepsNumbers, LeavesPattern, place_of};
+ghost use Rattle.grid_file.specs.Reading.{IsPlaced, IsPlacedTo, LeavesPattern, place_of};
+ghost use Rattle.slot_grid.specs.Grid.{SameNumbers};
 
 use crate::GridFault;
 use crate::bytes::{has, point_in};
@@ -19,7 +20,7 @@ fn read_line(bytes: &[u8], start: usize, grid: &mut Grid, symbol: u8) -> Result<
     requires symbol { symbol < 14 }
     requires start { start ≤ length bytes.now }
     requires placed { IsPlacedTo (drop start bytes.now) grid.old.blocks symbol 0 grid.old }
-    ensures keeps { KeepsNumbers grid.old grid.new }
+    ensures keeps { SameNumbers grid.old grid.new }
     ensures read { OnOk result (IsPlacedTo (drop start bytes.now) grid.old.blocks (symbol + 1) 0 grid.new) }
     ensures leaves { IfErr result (λ fault. LeavesPattern grid.old.blocks bytes.now start fault.at) }
 {
@@ -41,7 +42,7 @@ fn read_line(bytes: &[u8], start: usize, grid: &mut Grid, symbol: u8) -> Result<
 /// Puts the points of a grid's text on the grid. The text after the numbers begins at `start`.
 pub(crate) fn read_points(bytes: &[u8], start: usize, grid: &mut Grid) -> Result<(), GridFault>
     requires { start ≤ length bytes.now }
-    ensures keeps { KeepsNumbers grid.old grid.new }
+    ensures keeps { SameNumbers grid.old grid.new }
     ensures read { OnOk result (IsPlaced (drop start bytes.now) grid.old.blocks grid.new) }
     ensures leaves { IfErr result (λ fault. LeavesPattern grid.old.blocks bytes.now start fault.at) }
 {

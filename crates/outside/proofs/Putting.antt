@@ -1,11 +1,13 @@
 -- How far a whole write has come, and pieces taken one after another.
-use Rattle.std.proofs.Common.{◌≡◌, ◌≤◌, ◌+◌, ◌-◌, ℕ, List, ◌++◌, Option, Some, None, length, take, drop, refl, ap, ◌∙◌, append_assoc, append-nil, sym, [], arith, length-drop}
+use Rattle.std.proofs.Common.{◌≡◌, ◌≤◌, ◌+◌, ◌-◌, ℕ, List, ◌++◌, Option, Some, None, length, take, drop, refl, ap, ◌∙◌}
+use Rattle.std.proofs.Common.{append_assoc, append-nil, sym, [], arith, length-drop}
 use Rattle.std.proofs.Math.Seq.{take-add}
 use Rattle.std.proofs.lemmas.List.{take_rest}
 use Rattle.outside.specs.Taken.{Takes}
 
 -- two pieces taken one after the other are taken as one
-pub takes-append : (old mid new : Option (List ℕ)) (xs ys : List ℕ) → Takes old mid xs → Takes mid new ys → Takes old new (xs ++ ys)
+pub takes-append : (old mid new : Option (List ℕ)) (xs ys : List ℕ) → Takes old mid xs → Takes mid new ys
+    → Takes old new (xs ++ ys)
 takes-append None mid new xs ys first second = rw first at second
 takes-append (Some bytes) mid new xs ys first second =
     let joined = rw first at second in rw (← append_assoc) joined

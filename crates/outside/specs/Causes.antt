@@ -6,20 +6,21 @@ use Rattle.outside.specs.declared.faults.FetchFault.TheVariants.{Failed, TooLong
 use Rattle.outside.specs.Missed.{FailedName, LongName}
 use Rattle.outside.specs.Views.{ShelfView}
 
--- the greatest number of 64 bits
-abbrev pub greatest : ℕ
-greatest = 2 ^ 64 - 1
+-- where a count of 64 bits stands still
+abbrev pub last_count : ℕ
+last_count = 2 ^ 64 - 1
 
--- a count rose in a call: it ended greater than it began, or stands at its greatest value
+-- a count rose in a call: it ended greater than it began, or stands at the last one
 abbrev pub Rose : ℕ → ℕ → Type 0
-Rose old new = (old < new) ⊎ (new ≡ greatest)
+Rose old new = (old < new) ⊎ (new ≡ last_count)
 
--- the next count, which stands at the greatest value once that is reached
+-- the next count; the last one stays
 abbrev pub next_count : ℕ → ℕ
-next_count count = min (count + 1) greatest
+next_count count = min (count + 1) last_count
 
 -- a fetch of the object with this name from a shelf: `given` is what it left in the buffer
-pub record Fetches (old new : ShelfView) (name : List ℕ) (limit : ℕ) (given : List ℕ) (result : Result (Unit {0}) FetchFault) : Type 0 where
+pub record Fetches (old new : ShelfView) (name : List ℕ) (limit : ℕ) (given : List ℕ)
+    (result : Result (Unit {0}) FetchFault) : Type 0 where
   -- the counts never fall
   pub faults_later : old.faults ≤ new.faults
   pub longs_later : old.longs ≤ new.longs

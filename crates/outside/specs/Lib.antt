@@ -3,6 +3,7 @@ pub mod Noted
 pub mod Views
 pub mod Causes
 pub mod Taken
+pub mod Lost
 pub mod Memory
 pub mod Named
 pub mod Counts

@@ -1,5 +1,6 @@
-ghost use Rattle.std.specs.Prelude.{◌≡◌, ◌<◌, ◌≤◌, [], None, length, IfOk, IfSome, IsErr, OnOk, OnErr};
+ghost use Rattle.std.specs.Prelude.{◌≡◌, ◌+◌, ◌<◌, ◌≤◌, [], None, length, IfOk, IfSome, IsErr, OnOk, OnErr};
 ghost use Rattle.std.specs.Result.{IsErrOf};
+ghost use Rattle.outside.specs.Lost.{LosesAtMost};
 
 use crate::misses::Misses;
 use crate::{FetchFault, Shelf};
@@ -80,7 +81,8 @@ fn read_opened<F: Read + Drop>(
 
     // Where the opened file tells what it has, these are the bytes, and `TooLong` comes only where there are more.
     ensures whole { IfOk opened (λ file. OnOk result (IfSome (F.remaining file) (λ bytes. into.new.items ≡ bytes))) }
-    ensures longer { IfOk opened (λ file. IsErrOf result FetchFault.TooLong → IfSome (F.remaining file) (λ bytes. limit < length bytes)) }
+    ensures longer { IfOk opened (λ file. IsErrOf result FetchFault.TooLong
+        → IfSome (F.remaining file) (λ bytes. limit < length bytes)) }
 {
     match opened {
         Ok(mut file) => match read_within(&mut file, limit, into) {
@@ -102,6 +104,9 @@ fn read_within<F: Read>(file: &mut F, limit: usize, into: &mut Vec<u8>) -> Resul
     // Where the reader tells what it has left, these are the bytes, and `TooLong` comes only where there are more.
     ensures whole { OnOk result (IfSome (F.remaining file.old) (λ bytes. into.new.items ≡ bytes)) }
     ensures longer { IsErrOf result FetchFault.TooLong → IfSome (F.remaining file.old) (λ bytes. limit < length bytes) }
+
+    // Whatever the answer, the reader loses at most one byte more than the limit.
+    ensures asks { LosesAtMost (F.remaining file.old) (F.remaining file.new) (limit + 1) }
 {
     let mut piece = [0u8; PIECE];
     loop {

@@ -82,15 +82,26 @@ impl Shelf for MemoryShelf {
         limit: usize,
         into: &mut Vec<u8>,
     ) -> Result<(), FetchFault>
-        ensures fetched { Fetches (record { told = bytes_of self.old.objects; faults = self.old.faults; longs = self.old.longs; missed = self.old.missed })
-            (record { told = bytes_of self.new.objects; faults = self.new.faults; longs = self.new.longs; missed = self.new.missed })
+        ensures fetched { Fetches (record {
+          told = bytes_of self.old.objects;
+          faults = self.old.faults;
+          longs = self.old.longs;
+          missed = self.old.missed;
+        })
+            (record {
+              told = bytes_of self.new.objects;
+              faults = self.new.faults;
+              longs = self.new.longs;
+              missed = self.new.missed;
+            })
             name.now limit into.new.items result }
 
         // Which calls fail and which find too much; where the name can't be noted, the answer is `NoMemory`.
         ensures failed { IsErrOf result FetchFault.Failed → FetchFails self.old name.now }
         ensures fails { FetchFails self.old name.now → IsErrOf result FetchFault.Failed ⊎ IsErrOf result FetchFault.NoMemory }
         ensures longer { IsErrOf result FetchFault.TooLong → FindsTooMuch self.old name.now limit }
-        ensures long { FindsTooMuch self.old name.now limit → IsErrOf result FetchFault.TooLong ⊎ IsErrOf result FetchFault.NoMemory }
+        ensures long { FindsTooMuch self.old name.now limit
+            → IsErrOf result FetchFault.TooLong ⊎ IsErrOf result FetchFault.NoMemory }
         ensures numbered { self.new.calls ≡ next_count self.old.calls }
         ensures set_up { (self.new.objects ≡ self.old.objects) × (self.new.failing ≡ self.old.failing) }
     {

@@ -1,4 +1,5 @@
-ghost use Rattle.std.specs.Prelude.{◌≡◌, ◌≢◌, ◌<◌, ◌≤◌, ◌↔◌, ◌++◌, ℕ, [], List, Some, take, length, IfOk, OnOk, OnErr, IsErr, Ok, Err};
+ghost use Rattle.std.specs.Prelude.{◌≡◌, ◌≢◌, ◌<◌, ◌≤◌, ◌↔◌, ◌++◌, ℕ, [], List, Some, take, length, IfOk, OnOk, OnErr};
+ghost use Rattle.std.specs.Prelude.{IsErr, Ok, Err};
 ghost use Rattle.outside.specs.Causes.{Rose, next_count};
 
 use crate::{Failed, Sink, SinkFault};

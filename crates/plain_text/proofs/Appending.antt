@@ -1,8 +1,9 @@
 -- One append after another.
-use Rattle.std.proofs.Common.{◌≡◌, ℕ, ◌+◌, ◌<◌, List, ◌∷◌, ◌++◌, length, take, drop, get_or, Result, sym, ap, subst, ◌∙◌, add-one, append_assoc, arith, length-append, drop-cons}
+use Rattle.std.proofs.Common.{◌≡◌, ℕ, ◌+◌, ◌<◌, List, ◌++◌, length, take, drop}
+use Rattle.std.proofs.Common.{get_or, Result, sym, ap, subst, ◌∙◌, append_assoc, arith, length-append}
 use Rattle.std.specs.List.{flat_map}
 use Rattle.std.specs.Prelude.{IsErr}
-use Rattle.std.proofs.lemmas.List.{take-append-le, take-append-drop}
+use Rattle.std.proofs.lemmas.List.{drop_more, take-append-le, take-append-drop}
 use Rattle.std.proofs.lemmas.List.Concat.{flat_map-append}
 use Rattle.std.proofs.lemmas.Result.{MatchResult-weaker, MatchResult-from_err, IfOk-from_err}
 use Rattle.std.proofs.Math.Seq.{take-append-add}
@@ -26,27 +27,25 @@ begun_second {old = old} {q = q} p h e = record {
       ∙ ap (λ x. old ++ x) (sym (take-append-add p q h.count));
 }
 
--- a list from a place on is the element there, then the list from the next place on
-drop_at : {X : Type 0} (xs : List X) (i : ℕ) (d : X) → i < length xs → drop i xs ≡ get_or xs i d ∷ drop (i + 1) xs
-drop_at xs i d h = rw add-one (drop-cons xs i d h)
-
 -- a list of pieces is those before a place, the one at the place, and those behind it
 flat_map-at : {X : Type 0} (f : X → List ℕ) (xs : List X) (i : ℕ) (d : X) → i < length xs
     → flat_map f xs ≡ flat_map f (take i xs) ++ (f (get_or xs i d) ++ flat_map f (drop (i + 1) xs))
 flat_map-at f xs i d h =
     ap (flat_map f) (sym (take-append-drop i xs)) ∙ flat_map-append f (take i xs) (drop i xs)
-    ∙ ap (λ ys. flat_map f (take i xs) ++ flat_map f ys) (drop_at xs i d h)
+    ∙ ap (λ ys. flat_map f (take i xs) ++ flat_map f ys) (drop_more xs i d h)
 
 -- where the piece at a place is begun after those before it, so are all
 pub begun_at : {X : Type 0} {old mid new : List ℕ} (f : X → List ℕ) (xs : List X) (i : ℕ) (d : X)
     → IsBegun mid new (f (get_or xs i d)) → mid ≡ old ++ flat_map f (take i xs) → i < length xs → IsBegun old new (flat_map f xs)
 begun_at {old = old} {new = new} f xs i d h e l =
     let P : List ℕ → Type 0 = λ x. IsBegun old new x in
-    subst P (sym (flat_map-at f xs i d l)) (begun_second (flat_map f (take i xs)) (begun_first (flat_map f (drop (i + 1) xs)) h) e)
+    subst P (sym (flat_map-at f xs i d l))
+    (begun_second (flat_map f (take i xs)) (begun_first (flat_map f (drop (i + 1) xs)) h) e)
 
 -- the same at an item that is known to stand at the place
 pub begun_at_item : {X : Type 0} {old mid new : List ℕ} (f : X → List ℕ) (xs : List X) (i : ℕ) (x : X)
-    → IsBegun mid new (f x) → x ≡ get_or xs i x → mid ≡ old ++ flat_map f (take i xs) → i < length xs → IsBegun old new (flat_map f xs)
+    → IsBegun mid new (f x) → x ≡ get_or xs i x → mid ≡ old ++ flat_map f (take i xs) → i < length xs
+    → IsBegun old new (flat_map f xs)
 begun_at_item {X = X} {mid = mid} {new = new} f xs i x h is e l =
     let P : X → Type 0 = λ y. IsBegun mid new (f y) in
     begun_at f xs i x (subst P is h) e l
@@ -56,7 +55,8 @@ pub appended_twice : {mid new : List ℕ} (old p q : List ℕ) → mid ≡ old +
 appended_twice old p q m n = n ∙ ap (λ x. x ++ q) m ∙ append_assoc old p q
 
 -- a call that gives up appends, where its text is begun
-pub appends_begun : {E : Type 0} {old new piece : List ℕ} (r : Result (Unit {0}) E) → IsErr r → IsBegun old new piece → Appends old new piece r
+pub appends_begun : {E : Type 0} {old new piece : List ℕ} (r : Result (Unit {0}) E) → IsErr r → IsBegun old new piece
+    → Appends old new piece r
 appends_begun r e h = record {
   whole = IfOk-from_err r (λ x. _) e;
   prefix = MatchResult-from_err r (λ x. _) (λ y. _) e (λ y. h);
@@ -73,12 +73,15 @@ appends_middle {old = old} {new = new} r before after e m h t =
 pub appends_last : {E : Type 0} {old mid new piece text : List ℕ} {r : Result (Unit {0}) E} (before : List ℕ)
     → mid ≡ old ++ before → Appends mid new piece r → text ≡ before ++ piece → Appends old new text r
 appends_last {old = old} {new = new} {piece = piece} {r = r} before m h t = record {
-  whole = MatchResult-weaker r h.whole (λ x w. w ∙ ap (λ y. y ++ piece) m ∙ append_assoc old before piece ∙ ap (λ y. old ++ y) (sym t)) (λ y n. n);
+  whole =
+      MatchResult-weaker r h.whole
+      (λ x w. w ∙ ap (λ y. y ++ piece) m ∙ append_assoc old before piece ∙ ap (λ y. old ++ y) (sym t)) (λ y n. n);
   prefix =
       let P : List ℕ → Type 0 = λ x. IsBegun old new x in
       MatchResult-weaker r h.prefix (λ x n. n) (λ y b. subst P (sym t) (begun_second before b m));
 }
 
 -- a call that appends a text that is spelled in another way
-pub appends_same : {E : Type 0} {old new piece text : List ℕ} {r : Result (Unit {0}) E} → Appends old new piece r → text ≡ piece → Appends old new text r
+pub appends_same : {E : Type 0} {old new piece text : List ℕ} {r : Result (Unit {0}) E} → Appends old new piece r
+    → text ≡ piece → Appends old new text r
 appends_same {old = old} {new = new} {r = r} h t = let P : List ℕ → Type 0 = λ x. Appends old new x r in subst P (sym t) h

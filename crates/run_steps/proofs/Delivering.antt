@@ -9,23 +9,28 @@ use Rattle.run_steps.specs.Outcome.{Outcome, Fetched, no_memory}
 use Rattle.run_steps.specs.Ran.{Finishes, Ran}
 use Rattle.run_steps.specs.Steps.{Ends, Work, answered}
 
-answered-is : (result : Result Outcome Stop) (wanted : Outcome) → Ends result wanted → (answered result ≡ wanted) ⊎ (answered result ≡ no_memory)
-answered-is (Ok o) wanted h = inl (sym h)
-answered-is (Err (Ended o)) wanted h = inl (sym h)
-answered-is (Err OutOfMemory) wanted h = inr refl
+answered_is : (result : Result Outcome Stop) (wanted : Outcome) → Ends result wanted
+    → (answered result ≡ wanted) ⊎ (answered result ≡ no_memory)
+answered_is (Ok o) wanted h = inl (sym h)
+answered_is (Err (Ended o)) wanted h = inl (sym h)
+answered_is (Err OutOfMemory) wanted h = inr refl
 
 -- a status other than that of a fault of writing is the answer's
-own-status : (answered result wanted : Status) → (result ≡ answered) ⊎ (result ≡ status.WriteFault) → (status.WriteFault ≡ wanted → ⊥) → result ≡ wanted → answered ≡ wanted
+own-status : (answered result wanted : Status) → (result ≡ answered) ⊎ (result ≡ status.WriteFault)
+    → (status.WriteFault ≡ wanted → ⊥) → result ≡ wanted → answered ≡ wanted
 own-status answered result wanted (inl s) unlike e = sym s ∙ e
 own-status answered result wanted (inr s) unlike e = absurd (unlike (sym s ∙ e))
 
-pub ran-from : {outcome : List Fetched → Outcome} {names : List (List ℕ)} {old new : ShelfView} {work : Result Outcome Stop} {result : Status} {out_old out_new err_old err_new : SinkView}
-    → Work outcome names old new work → Finishes (answered work) result out_old out_new err_old err_new → Ran outcome names old new result out_old out_new err_old err_new
-ran-from {outcome} {names} {old} {new} {work} {result} {out_old} {out_new} {err_old} {err_new} w f = record {
+-- the steps of a command, and their answer delivered, are a run of it
+pub ran_from : {outcome : List Fetched → Outcome} {names : List (List ℕ)} {old new : ShelfView} {work : Result Outcome Stop}
+    {result : Status} {out_old out_new err_old err_new : SinkView}
+    → Work outcome names old new work → Finishes (answered work) result out_old out_new err_old err_new
+    → Ran outcome names old new result out_old out_new err_old err_new
+ran_from {outcome} {names} {old} {new} {work} {result} {out_old} {out_new} {err_old} {err_new} w f = record {
   gave = w.gave;
   given = w.given;
   answer = answered work;
-  is = answered-is work (outcome w.gave) w.is;
+  is = answered_is work (outcome w.gave) w.is;
   missed = w.missed;
   read = λ e. w.read (own-status (answered work).status result status.ReadFault f.delivered.status (λ h. cc) e);
   long = λ e. w.long (own-status (answered work).status result status.FileTooLong f.delivered.status (λ h. cc) e);

@@ -1,7 +1,10 @@
 -- The exit status of each way in which a run ends.
 use Rattle.std.specs.Prelude.{ℕ}
 use Rattle.run_steps.specs.declared.statuses.Status.{Status}
-use Rattle.run_steps.specs.declared.statuses.Status.TheVariants.{Done, Usage, GrantsRefused, SettingsRefused, TableRefused, GrantsFileRefused, GridRefused, ReadFault, WriteFault, NoMemory, FileTooLong, NoSuch, SlotRefused}
+use Rattle.run_steps.specs.declared.statuses.Status.TheVariants.{Done, Usage, GrantsRefused, SettingsRefused}
+use Rattle.run_steps.specs.declared.statuses.Status.TheVariants.{TableRefused, GrantsFileRefused, GridRefused}
+use Rattle.run_steps.specs.declared.statuses.Status.TheVariants.{ReadFault, WriteFault, NoMemory, FileTooLong, NoSuch}
+use Rattle.run_steps.specs.declared.statuses.Status.TheVariants.{SlotRefused}
 
 -- the exit status that stands for it
 abbrev pub code_of : Status → ℕ

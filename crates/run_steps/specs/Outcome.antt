@@ -1,5 +1,6 @@
 -- What a run is to leave behind: a status and two texts, as a function of what each fetch gave.
-use Rattle.std.specs.Prelude.{◌≡◌, ℕ, Bool, true, false, cond, leb, List, [], ◌∷◌, ◌++◌, Option, Some, None, Result, Ok, Err, length}
+use Rattle.std.specs.Prelude.{◌≡◌, ℕ, Bool, true, false, cond, leb, List, [], ◌∷◌, ◌++◌, Option, Some, None, Result, Ok}
+use Rattle.std.specs.Prelude.{Err, length}
 use Rattle.outside.specs.Missed.{Missed, FailedName, LongName}
 use Rattle.run_steps.specs.declared.statuses.Status.{Status}
 use Rattle.run_steps.specs.declared.statuses.Status.TheVariants as status
@@ -115,6 +116,7 @@ and_then (Ok a) next = next a
 and_then (Err o) next = o
 
 -- one file read and checked, then the next step with what its fetch did not use; there is one entry for each name
-unfoldable pub reading : {A : Type 0} → (List ℕ → Result A Refusal) → List ℕ → (A → List Fetched → Outcome) → List Fetched → Outcome
+unfoldable pub reading : {A : Type 0} → (List ℕ → Result A Refusal) → List ℕ → (A → List Fetched → Outcome) → List Fetched
+    → Outcome
 reading check name next [] = no_memory
 reading check name next (gave ∷ rest) = and_then (read_as check name gave) (λ a. next a rest)

@@ -11,19 +11,26 @@ use Rattle.run_steps.specs.Ran.{Ran}
 
 -- where the shelf met a fault, the run ends as a fault of reading or of writing, or for want of memory
 abbrev pub EndsAsReadFault : Type 0
-EndsAsReadFault = (outcome : List Fetched → Outcome) (names : List (List ℕ)) (old new : ShelfView) (result : Status) (out_old out_new err_old err_new : SinkView)
+EndsAsReadFault =
+    (outcome : List Fetched → Outcome) (names : List (List ℕ)) (old new : ShelfView) (result : Status)
+    (out_old out_new err_old err_new : SinkView)
     → Ran outcome names old new result out_old out_new err_old err_new → old.faults < new.faults
     → (result ≡ ends.ReadFault) ⊎ ((result ≡ ends.WriteFault) ⊎ (result ≡ ends.NoMemory))
 
 -- where a sink met a fault, the run ends as a fault of writing
 abbrev pub EndsAsWriteFault : Type 0
-EndsAsWriteFault = (outcome : List Fetched → Outcome) (names : List (List ℕ)) (old new : ShelfView) (result : Status) (out_old out_new err_old err_new : SinkView)
-    → Ran outcome names old new result out_old out_new err_old err_new → (out_old.faults < out_new.faults) ⊎ (err_old.faults < err_new.faults)
+EndsAsWriteFault =
+    (outcome : List Fetched → Outcome) (names : List (List ℕ)) (old new : ShelfView) (result : Status)
+    (out_old out_new err_old err_new : SinkView)
+    → Ran outcome names old new result out_old out_new err_old err_new
+    → (out_old.faults < out_new.faults) ⊎ (err_old.faults < err_new.faults)
     → result ≡ ends.WriteFault
 
 -- a run that refused its job and met no fault of a sink wrote nothing to the output
 abbrev pub RefusesSilently : Type 0
-RefusesSilently = (outcome : List Fetched → Outcome) (names : List (List ℕ)) (old new : ShelfView) (result : Status) (out_old out_new err_old err_new : SinkView)
+RefusesSilently =
+    (outcome : List Fetched → Outcome) (names : List (List ℕ)) (old new : ShelfView) (result : Status)
+    (out_old out_new err_old err_new : SinkView)
     → Ran outcome names old new result out_old out_new err_old err_new → is_done result ≡ false → (result ≡ ends.WriteFault → ⊥)
     → out_new.taken ≡ out_old.taken
 
@@ -41,10 +48,16 @@ pub record NamesLong (old new : ShelfView) (err_old err_new : SinkView) : Type 0
 
 -- a run that ended as a fault of reading names the one file that the shelf failed to fetch
 abbrev pub NamesTheFailedFile : Type 0
-NamesTheFailedFile = (outcome : List Fetched → Outcome) (names : List (List ℕ)) (old new : ShelfView) (result : Status) (out_old out_new err_old err_new : SinkView)
-    → Ran outcome names old new result out_old out_new err_old err_new → result ≡ ends.ReadFault → NamesFailed old new err_old err_new
+NamesTheFailedFile =
+    (outcome : List Fetched → Outcome) (names : List (List ℕ)) (old new : ShelfView) (result : Status)
+    (out_old out_new err_old err_new : SinkView)
+    → Ran outcome names old new result out_old out_new err_old err_new → result ≡ ends.ReadFault
+    → NamesFailed old new err_old err_new
 
 -- a run that ended for a file that is too long names the one that the shelf found so
 abbrev pub NamesTheLongFile : Type 0
-NamesTheLongFile = (outcome : List Fetched → Outcome) (names : List (List ℕ)) (old new : ShelfView) (result : Status) (out_old out_new err_old err_new : SinkView)
-    → Ran outcome names old new result out_old out_new err_old err_new → result ≡ ends.FileTooLong → NamesLong old new err_old err_new
+NamesTheLongFile =
+    (outcome : List Fetched → Outcome) (names : List (List ℕ)) (old new : ShelfView) (result : Status)
+    (out_old out_new err_old err_new : SinkView)
+    → Ran outcome names old new result out_old out_new err_old err_new → result ≡ ends.FileTooLong
+    → NamesLong old new err_old err_new

@@ -29,7 +29,8 @@ pub record Finishes (answer : Outcome) (result : Status) (out_old out_new err_ol
 
 -- a run of a command with this outcome over what its named files give: what each fetch gave, the answer over that or want
 -- of memory, and its delivery
-pub record Ran (outcome : List Fetched → Outcome) (names : List (List ℕ)) (shelf_old shelf_new : ShelfView) (result : Status) (out_old out_new err_old err_new : SinkView) : Type 0 where
+pub record Ran (outcome : List Fetched → Outcome) (names : List (List ℕ)) (shelf_old shelf_new : ShelfView)
+    (result : Status) (out_old out_new err_old err_new : SinkView) : Type 0 where
   pub gave : List Fetched
   pub given : AreGiven shelf_old shelf_new names gave
   pub answer : Outcome
@@ -64,7 +65,8 @@ IsComplete wanted result out_old out_new err_old err_new =
     EndsWhole wanted result out_old out_new err_old err_new ⊎ EndsWhole no_memory result out_old out_new err_old err_new
 
 -- where all named files are told and no count of faults rose, the run ended as the told bytes want it
-abbrev pub Completes : (List Fetched → Outcome) → List (List ℕ) → ShelfView → ShelfView → Status → SinkView → SinkView → SinkView → SinkView → Type 0
+abbrev pub Completes : (List Fetched → Outcome) → List (List ℕ) → ShelfView → ShelfView → Status → SinkView → SinkView
+    → SinkView → SinkView → Type 0
 Completes outcome names shelf_old shelf_new result out_old out_new err_old err_new = (bytes : List (List ℕ))
     → AreTold shelf_old names bytes → (Rose shelf_old.faults shelf_new.faults → ⊥)
     → (Rose out_old.faults out_new.faults → ⊥) → (Rose err_old.faults err_new.faults → ⊥)

@@ -7,7 +7,8 @@ use Rattle.run_steps.specs.declared.statuses.Status.{Status}
 use Rattle.run_steps.specs.declared.statuses.Status.TheVariants as status
 use Rattle.run_steps.specs.declared.stops.Stop.{Stop}
 use Rattle.run_steps.specs.declared.stops.Stop.TheVariants.{OutOfMemory, Ended}
-use Rattle.run_steps.specs.Outcome.{Outcome, Refusal, Fetched, Bytes, TooLong, Fault, given_of, limit, missed_file, no_memory, read_as}
+use Rattle.run_steps.specs.Outcome.{Outcome, Refusal, Fetched, Bytes, TooLong, Fault, given_of, limit, missed_file}
+use Rattle.run_steps.specs.Outcome.{no_memory, read_as}
 
 -- what a reading answered is what was wanted; want of memory is free
 abbrev pub IsRead : {A : Type 0} → Result A Stop → Result A Outcome → Type 0
@@ -93,7 +94,8 @@ AreGiven old new (n ∷ ns) [] = ⊥
 AreGiven old new (n ∷ ns) (g ∷ gs) = IsGiven old new n g × AreGiven old new ns gs
 
 -- one file was fetched and checked: what its fetch gave, and that the answer is its check of that
-pub record Step {A : Type 0} (check : List ℕ → Result A Refusal) (name : List ℕ) (old new : ShelfView) (result : Result A Stop) : Type 0 where
+pub record Step {A : Type 0} (check : List ℕ → Result A Refusal) (name : List ℕ) (old new : ShelfView)
+    (result : Result A Stop) : Type 0 where
   pub gave : Fetched
   pub given : IsGiven old new name gave
   pub is : IsRead result (read_as check name gave)
@@ -104,7 +106,8 @@ pub record Step {A : Type 0} (check : List ℕ → Result A Refusal) (name : Lis
   pub later : IsLater old new
 
 -- the steps of a command: what each fetch gave, and that the answer is the outcome over that
-pub record Work (outcome : List Fetched → Outcome) (names : List (List ℕ)) (old new : ShelfView) (result : Result Outcome Stop) : Type 0 where
+pub record Work (outcome : List Fetched → Outcome) (names : List (List ℕ)) (old new : ShelfView)
+    (result : Result Outcome Stop) : Type 0 where
   pub gave : List Fetched
   pub given : AreGiven old new names gave
   pub is : Ends result (outcome gave)

@@ -18,7 +18,8 @@ fn deliver<K: Sink, L: Sink>(
     err: &mut L,
 ) -> Status
     requires { status ≡ Status.WriteFault → ⊥ }
-    ensures { IsDelivered (record { status = status; out = out_text.now; err = err_text.now }) result (K.shows out.old) (K.shows out.new) (L.shows err.old) (L.shows err.new) }
+    ensures { IsDelivered (record { status = status; out = out_text.now; err = err_text.now }) result (K.shows out.old)
+        (K.shows out.new) (L.shows err.old) (L.shows err.new) }
 {
     let Ok(()) = put_all(out, out_text) else {
         return Status::WriteFault;

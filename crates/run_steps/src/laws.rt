@@ -1,5 +1,6 @@
 //! What every run promises: laws over what a run leaves, as the contracts of functions with nothing to do.
-ghost use Rattle.run_steps.specs.Promises.{EndsAsReadFault, EndsAsWriteFault, RefusesSilently, NamesTheFailedFile, NamesTheLongFile};
+ghost use Rattle.run_steps.specs.Promises.{EndsAsReadFault, EndsAsWriteFault, RefusesSilently, NamesTheFailedFile};
+ghost use Rattle.run_steps.specs.Promises.{NamesTheLongFile};
 
 /// A fault of the shelf never ends as another refusal, and never as a job that was done.
 pub fn ends_as_read_fault()

@@ -7,4 +7,5 @@ use Rattle.grid_file.proofs.writer.push_symbol.Given as goal
 -- the characters of the subcarriers so far follow the text
 abbrev pub invariant-loop-subcarrier : goal.invariant-loop-subcarrier
 invariant-loop-subcarrier l =
-    l.text.items ≡ l.initial.text.items ++ map (λ c. point_byte (point_at l.initial.grid l.initial.symbol c)) (range_with_len 0 l.subcarrier)
+    l.text.items ≡ l.initial.text.items
+    ++ map (λ c. point_byte (point_at l.initial.grid l.initial.symbol c)) (range_with_len 0 l.subcarrier)

@@ -6,4 +6,5 @@ use Rattle.grid_file.proofs.writer.text_of.Given as goal
 -- the lines of the symbols so far follow the head
 abbrev pub invariant-loop-symbol : goal.invariant-loop-symbol
 invariant-loop-symbol l =
-    l.text.items ≡ grid_head l.initial.grid.mu l.initial.grid.frame l.initial.grid.slot l.initial.grid.blocks ++ flat_map (symbol_line l.initial.grid) (range_with_len 0 l.symbol)
+    l.text.items ≡ grid_head l.initial.grid.mu l.initial.grid.frame l.initial.grid.slot l.initial.grid.blocks
+    ++ flat_map (symbol_line l.initial.grid) (range_with_len 0 l.symbol)

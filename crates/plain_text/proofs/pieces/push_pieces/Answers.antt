@@ -5,4 +5,5 @@ use Rattle.plain_text.proofs.pieces.push_pieces.Goals as goal
 pub returns-in_err-push_piece : goal.returns-in_err-push_piece
 returns-in_err-push_piece c =
     appends_begun c.from_residual.result c.from_residual.ensures.0
-    (begun_at piece_text c.args.pieces.now c.loop-piece.piece-index _ c.in_err-push_piece.ensures.prefix c.loop-piece.invariant c.loop-piece-test.true)
+    (begun_at piece_text c.args.pieces.now c.loop-piece.piece-index _ c.in_err-push_piece.ensures.prefix
+    c.loop-piece.invariant c.loop-piece-test.true)
