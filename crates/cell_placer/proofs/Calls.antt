@@ -1,5 +1,6 @@
 -- Calls that rise, and the first one that passes a test.
-use Rattle.std.proofs.Common.{◌≡◌, ℕ, ◌+◌, ◌<◌, ◌≤◌, Bool, true, false, ◌||◌, nat_lt, cond, List, [], ◌∷◌, ◌++◌, Option, Some, None, option_map, find, refl, ap, ◌∙◌, arith}
+use Rattle.std.proofs.Common.{◌≡◌, ℕ, ◌+◌, ◌<◌, ◌≤◌, Bool, true, false, ◌||◌, nat_lt, cond, List, [], ◌∷◌, ◌++◌, Option}
+use Rattle.std.proofs.Common.{Some, None, option_map, find, refl, ap, ◌∙◌, arith}
 use Rattle.std.proofs.lemmas.Bool.{ltb-true, ltb-false}
 use Rattle.cell_placer.specs.declared.member.Accepted.{Accepted}
 use Rattle.cell_placer.specs.Ledger.{AreCalls}
@@ -10,12 +11,13 @@ abbrev pub first_call : (Accepted → Bool) → List Accepted → Option ℕ
 first_call p accepted = option_map (λ (a : Accepted). a.call) (find p accepted)
 
 -- calls below a number are below the next one
-pub calls-more : (low last : ℕ) (accepted : List Accepted) → AreCalls low last accepted → AreCalls low (last + 1) accepted
-calls-more low last [] h = omega (arith, h)
-calls-more low last (a ∷ later) h = (h.0, calls-more (a.call + 1) last later h.1)
+pub calls_more : (low last : ℕ) (accepted : List Accepted) → AreCalls low last accepted → AreCalls low (last + 1) accepted
+calls_more low last [] h = omega (arith, h)
+calls_more low last (a ∷ later) h = (h.0, calls_more (a.call + 1) last later h.1)
 
 -- and one more call may come behind them
-pub calls-add : (low last : ℕ) (accepted : List Accepted) (a : Accepted) → a.call ≡ last → AreCalls low last accepted → AreCalls low (last + 1) (accepted ++ a ∷ [])
+pub calls-add : (low last : ℕ) (accepted : List Accepted) (a : Accepted) → a.call ≡ last → AreCalls low last accepted
+    → AreCalls low (last + 1) (accepted ++ a ∷ [])
 calls-add low last [] a e h = (omega (arith, e, h), omega (arith, e))
 calls-add low last (x ∷ later) a e h = (h.0, calls-add (x.call + 1) last later a e h.1)
 
@@ -30,7 +32,8 @@ below m n h = by (nat_lt n m) refl
 least_before : (c low last : ℕ) (q : Accepted → Bool) (accepted : List Accepted) → c < low → AreCalls low last accepted
     → least (Some c) (first_call q accepted) ≡ Some c
 least_before c low last q [] h calls = refl
-least_before c low last q (x ∷ later) h calls = by (q x) (least_before c (x.call + 1) last q later (let k = calls.0 in omega (arith, h, k)) calls.1)
+least_before c low last q (x ∷ later) h calls =
+    by (q x) (least_before c (x.call + 1) last q later (let k = calls.0 in omega (arith, h, k)) calls.1)
   where
     by : (b : Bool) → least (Some c) (first_call q later) ≡ Some c
         → least (Some c) (option_map (λ (a : Accepted). a.call) (cond b (Some x) (find q later))) ≡ Some c
@@ -40,7 +43,8 @@ least_before c low last q (x ∷ later) h calls = by (q x) (least_before c (x.ca
 least_behind : (c low last : ℕ) (p : Accepted → Bool) (accepted : List Accepted) → c < low → AreCalls low last accepted
     → least (first_call p accepted) (Some c) ≡ Some c
 least_behind c low last p [] h calls = refl
-least_behind c low last p (x ∷ later) h calls = by (p x) (least_behind c (x.call + 1) last p later (let k = calls.0 in omega (arith, h, k)) calls.1)
+least_behind c low last p (x ∷ later) h calls =
+    by (p x) (least_behind c (x.call + 1) last p later (let k = calls.0 in omega (arith, h, k)) calls.1)
   where
     above : (m n : ℕ) → m < n → nat_lt m n ≡ true
     above m n k = decide (nat_lt m n) refl
@@ -71,7 +75,8 @@ either_first p q low last (x ∷ later) calls = by (p x) (q x) (either_first p q
     call_of o = option_map (λ (a : Accepted). a.call) o
 
     by : (b c : Bool) → least (first_call p later) (first_call q later) ≡ first_call (λ a. p a || q a) later
-        → least (option_map (λ (a : Accepted). a.call) (cond b (Some x) (find p later))) (option_map (λ (a : Accepted). a.call) (cond c (Some x) (find q later)))
+        → least (option_map (λ (a : Accepted). a.call) (cond b (Some x) (find p later)))
+        (option_map (λ (a : Accepted). a.call) (cond c (Some x) (find q later)))
         ≡ option_map (λ (a : Accepted). a.call) (cond (b || c) (Some x) (find (λ a. p a || q a) later))
     by true true e = same_least x.call
     by true false e = least_before x.call (x.call + 1) last q later (omega arith) calls.1
@@ -79,7 +84,8 @@ either_first p q low last (x ∷ later) calls = by (p x) (q x) (either_first p q
     by false false e = e
 
 -- tests that are alike find alike
-pub find_alike : (p q : Accepted → Bool) (accepted : List Accepted) → ((a : Accepted) → p a ≡ q a) → find p accepted ≡ find q accepted
+pub find_alike : (p q : Accepted → Bool) (accepted : List Accepted) → ((a : Accepted) → p a ≡ q a)
+    → find p accepted ≡ find q accepted
 find_alike p q [] h = refl
 find_alike p q (x ∷ later) h =
     ap (λ b. cond b (Some x) (find p later)) (h x) ∙ ap (λ o. cond (q x) (Some x) o) (find_alike p q later h)

@@ -1,5 +1,6 @@
 -- What is known of a grant that is accepted.
-use Rattle.std.proofs.Common.{◌≡◌, ℕ, ◌<◌, Bool, true, false, ◌&&◌, nat_lt, cond, List, Option, Some, None, is_none, Result, Ok, Err, length, bytes_eq, refl, ap, sym, subst, ◌∙◌, arith}
+use Rattle.std.proofs.Common.{◌≡◌, ℕ, ◌<◌, Bool, true, false, ◌&&◌, nat_lt, cond, List, Option, Some, None, is_none}
+use Rattle.std.proofs.Common.{Result, Ok, Err, length, bytes_eq, refl, ap, sym, subst, ◌∙◌, arith}
 use Rattle.std.specs.Prelude.{◌==◌, position, IfOk}
 use Rattle.std.specs.List.{list_any}
 use Rattle.std.proofs.lemmas.Bool.{and_parts, ltb-true}
@@ -31,7 +32,8 @@ pub record IsDecided (ledger : LedgerValue) (grant : Grant) (a : Accepted) : Typ
   pub handset : position (is_named grant) ledger.members ≡ Some a.handset
   pub first : ℕ
   pub first_is : position (is_suitable grant) (member_at ledger.members a.handset).plan ≡ Some first
-  pub faultless : field_fault (list_of (watch_at (member_at ledger.members a.handset).plan first) grant.format) grant.format grant.given ≡ None
+  pub faultless : field_fault (list_of (watch_at (member_at ledger.members a.handset).plan first) grant.format) grant.format
+      grant.given ≡ None
   pub open_is : position (is_open ledger grant) (member_at ledger.members a.handset).plan ≡ Some a.watch
   pub call : a.call ≡ ledger.calls
   pub room : length ledger.accepted < ledger.room
@@ -46,7 +48,8 @@ same_entry : (a b : Accepted) → ◌≡◌ {A = Result Accepted Refusal} (Ok a)
 same_entry a b e = cc
 
 room_ok : (call handset watch room : ℕ) (r : Refusal) (n : ℕ) (a : Accepted) (b : Bool) → nat_lt n room ≡ b
-    → ◌≡◌ {A = Result Accepted Refusal} (cond b (Ok (entry call handset watch)) (Err r)) (Ok a) → (entry call handset watch ≡ a) × (n < room)
+    → ◌≡◌ {A = Result Accepted Refusal} (cond b (Ok (entry call handset watch)) (Err r)) (Ok a)
+    → (entry call handset watch ≡ a) × (n < room)
 room_ok call handset watch room r n a true e h = (same_entry (entry call handset watch) a h, ltb-true n room e)
 room_ok call handset watch room r n a false e h = refused r a h
 
@@ -55,18 +58,27 @@ abbrev IsFree : LedgerValue → ℕ → Option ℕ → Accepted → Type 0
 IsFree ledger handset found a =
     (found ≡ Some a.watch) × (a.handset ≡ handset) × (a.call ≡ ledger.calls) × (length ledger.accepted < ledger.room)
 
-free_ok : (ledger : LedgerValue) (handset : ℕ) (first : Watch) (found : Option ℕ) (a : Accepted) → by_free ledger handset first found ≡ Ok a
+free_ok : (ledger : LedgerValue) (handset : ℕ) (first : Watch) (found : Option ℕ) (a : Accepted)
+    → by_free ledger handset first found ≡ Ok a
     → IsFree ledger handset found a
 free_ok ledger handset first None a h = refused _ a h
 free_ok ledger handset first (Some watch) a h =
-    let ok = room_ok ledger.calls handset watch ledger.room _ (length ledger.accepted) a (nat_lt (length ledger.accepted) ledger.room) refl h in
-    (ap (λ (x : Accepted). Some x.watch) ok.0, sym (ap (λ (x : Accepted). x.handset) ok.0), sym (ap (λ (x : Accepted). x.call) ok.0), ok.1)
+    let ok = room_ok ledger.calls handset watch ledger.room _ (length ledger.accepted) a
+    (nat_lt (length ledger.accepted) ledger.room) refl h in (
+      ap (λ (x : Accepted). Some x.watch) ok.0,
+      sym (ap (λ (x : Accepted). x.handset) ok.0),
+      sym
+          (ap (λ (x : Accepted). x.call) ok.0),
+      ok.1,
+    )
 
-fault_ok : (ledger : LedgerValue) (grant : Grant) (handset : ℕ) (watches : List Watch) (first : Watch) (fault : Option FieldFault) (a : Accepted)
+fault_ok : (ledger : LedgerValue) (grant : Grant) (handset : ℕ) (watches : List Watch) (first : Watch)
+    (fault : Option FieldFault) (a : Accepted)
     → by_fault ledger grant handset watches first fault ≡ Ok a
     → (fault ≡ None) × IsFree ledger handset (position (is_open ledger grant) watches) a
 fault_ok ledger grant handset watches first (Some fault) a h = refused _ a h
-fault_ok ledger grant handset watches first None a h = (refl, free_ok ledger handset first (position (is_open ledger grant) watches) a h)
+fault_ok ledger grant handset watches first None a h =
+    (refl, free_ok ledger handset first (position (is_open ledger grant) watches) a h)
 
 abbrev IsFirst : LedgerValue → Grant → ℕ → List Watch → Option ℕ → Accepted → Type 0
 IsFirst ledger grant handset watches found a =
@@ -82,13 +94,15 @@ first_ok ledger grant handset watches (Some k) a h =
     (k, refl, ok.0, ok.1)
 
 set_ok : (ledger : LedgerValue) (grant : Grant) (handset : ℕ) (watches : List Watch) (has : Bool) (a : Accepted)
-    → by_set ledger grant handset watches has ≡ Ok a → IsFirst ledger grant handset watches (position (is_suitable grant) watches) a
+    → by_set ledger grant handset watches has ≡ Ok a
+    → IsFirst ledger grant handset watches (position (is_suitable grant) watches) a
 set_ok ledger grant handset watches false a h = refused _ a h
 set_ok ledger grant handset watches true a h = first_ok ledger grant handset watches (position (is_suitable grant) watches) a h
 
 handset_ok : (ledger : LedgerValue) (grant : Grant) (found : Option ℕ) (a : Accepted) → by_handset ledger grant found ≡ Ok a
     → (handset : ℕ) × (found ≡ Some handset)
-    × IsFirst ledger grant handset (member_at ledger.members handset).plan (position (is_suitable grant) (member_at ledger.members handset).plan) a
+    × IsFirst ledger grant handset (member_at ledger.members handset).plan
+    (position (is_suitable grant) (member_at ledger.members handset).plan) a
 handset_ok ledger grant None a h = refused _ a h
 handset_ok ledger grant (Some handset) a h =
     let m = member_at ledger.members handset in
@@ -98,7 +112,8 @@ handset_ok ledger grant (Some handset) a h =
 pub decided_ok : (ledger : LedgerValue) (grant : Grant) (a : Accepted) → decided ledger grant ≡ Ok a → IsDecided ledger grant a
 unfolding decided
 decided_ok ledger grant a h =
-    let (handset, found, (k, first_is, faultless, (open_is, same, call, room))) = handset_ok ledger grant (position (is_named grant) ledger.members) a h in
+    let (handset, found, (k, first_is, faultless, (open_is, same, call, room))) = handset_ok ledger grant
+    (position (is_named grant) ledger.members) a h in
     let W : ℕ → List Watch = λ n. (member_at ledger.members n).plan in
     let P : ℕ → Type 0 = λ n. position (is_suitable grant) (W n) ≡ Some k in
     let Q : ℕ → Type 0 = λ n. field_fault (list_of (watch_at (W n) k) grant.format) grant.format grant.given ≡ None in
@@ -118,7 +133,8 @@ none_of None e = refl
 none_of (Some n) e = absurd (let f : ⊥ = cc in f)
 
 -- it may be written where it was found
-pub ready : (ledger : LedgerValue) (grant : Grant) (a : Accepted) → IsLedger ledger → decided ledger grant ≡ Ok a → IsReady ledger grant a
+pub ready : (ledger : LedgerValue) (grant : Grant) (a : Accepted) → IsLedger ledger → decided ledger grant ≡ Ok a
+    → IsReady ledger grant a
 ready ledger grant a keeps h =
     let d = decided_ok ledger grant a h in
     let m = member_at ledger.members a.handset in
@@ -130,7 +146,8 @@ ready ledger grant a keeps h =
     let first = first_suits grant m.plan d.first d.first_is in
     let member : IsMember ledger.blocks m = keeps.members a.handset no_member there.0 in
     let few = member.plan.few in
-    let alike = member.plan.alike a.watch d.first grant.format found.0 first.0 (own.set ∙ sym first.1.set) own.fitting first.1.fitting in
+    let alike = member.plan.alike a.watch d.first grant.format found.0 first.0 (own.set ∙ sym first.1.set) own.fitting
+    first.1.fitting in
     let P : List FieldRow → Type 0 = λ rows. field_fault rows grant.format grant.given ≡ None in
     record {
       spot = record {
@@ -147,7 +164,8 @@ ready ledger grant a keeps h =
       faultless = subst P (sym alike.0) d.faultless;
     }
 
-pub ready_if : (ledger : LedgerValue) (grant : Grant) (result : Result Accepted Refusal) → IsLedger ledger → result ≡ decided ledger grant
+pub ready_if : (ledger : LedgerValue) (grant : Grant) (result : Result Accepted Refusal) → IsLedger ledger
+    → result ≡ decided ledger grant
     → IfOk result (λ a. IsReady ledger grant a)
 ready_if ledger grant (Ok a) keeps e = ready ledger grant a keeps (sym e)
 ready_if ledger grant (Err refusal) keeps e = cc

@@ -15,8 +15,10 @@ use Rattle.cell_placer.specs.Opened.{SlotOver, new_desk, opened}
 use Rattle.cell_placer.specs.Written.{image_before, accepted_images, all_overwritten, ledger_after}
 
 -- one grant
-one_written : (tables : Tables) (ledger after : LedgerValue) (grant : Grant) (grants : List Grant) (grid : GridValue) (r : Result Accepted Refusal)
-    → all_overwritten (accepted_images tables (written tables ledger grant grid r).slot after grants) (written tables ledger grant grid r)
+one_written : (tables : Tables) (ledger after : LedgerValue) (grant : Grant) (grants : List Grant) (grid : GridValue)
+    (r : Result Accepted Refusal)
+    → all_overwritten (accepted_images tables (written tables ledger grant grid r).slot after grants)
+    (written tables ledger grant grid r)
     ≡ all_overwritten (image_before tables grid.slot ledger grant r (accepted_images tables grid.slot after grants)) grid
 unfolding all_overwritten overwritten
 one_written tables ledger after grant grants grid (Ok a) = refl
@@ -31,12 +33,14 @@ grid_after tables desk (grant ∷ grants) =
     grid_after tables (step tables desk grant) grants
     ∙ one_written tables desk.ledger (next desk.ledger grant) grant grants desk.grid (decided desk.ledger grant)
 
-pub ledger_of_after : (tables : Tables) (desk : DeskValue) (grants : List Grant) → (desk_after tables desk grants).ledger ≡ ledger_after desk.ledger grants
+pub ledger_of_after : (tables : Tables) (desk : DeskValue) (grants : List Grant)
+    → (desk_after tables desk grants).ledger ≡ ledger_after desk.ledger grants
 unfolding desk_after ledger_after
 ledger_of_after tables desk [] = refl
 ledger_of_after tables desk (grant ∷ grants) = ledger_of_after tables (step tables desk grant) grants
 
-same_desk : (a b : DeskValue) → ◌≡◌ {A = Result DeskValue SlotOver} (Ok a) (Ok b) → a ≡ b
+-- a desk that was opened is one desk
+pub same_desk : (a b : DeskValue) → ◌≡◌ {A = Result DeskValue SlotOver} (Ok a) (Ok b) → a ≡ b
 same_desk a b e = cc
 
 new_grid : (cell : RawCell) (frame slot room : ℕ) (members : Result (List Member) SlotOver) (desk : DeskValue)

@@ -3,7 +3,6 @@ pub mod OwnerTables
 pub mod Entries
 pub mod SuitableWatches
 pub mod Decisions
-pub mod LegalCells
 pub mod Openings
 pub mod Faultless
 pub mod Histories
@@ -13,3 +12,4 @@ pub mod FieldChecks
 pub mod OpenedDesks
 pub mod NamedHandsets
 pub mod WrittenGrids
+pub mod GrantByGrant

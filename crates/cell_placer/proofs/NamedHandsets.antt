@@ -1,6 +1,7 @@
 -- An accepted grant is heard by the handset of the cell that has the grant's name.
 use Rattle.std.proofs.Common.{◌≡◌, ℕ, zero, suc, ◌<◌, get_or, refl, sym, ap, subst, ◌∙◌, arith}
-use Rattle.std.specs.Prelude.{Bool, true, false, nat_lt, cond, List, [], ◌∷◌, Option, Some, None, Ok, length, bytes_eq, position, slice_get, unwrap_or}
+use Rattle.std.specs.Prelude.{Bool, true, false, nat_lt, cond, List, [], ◌∷◌, Option, Some, None, Ok, length, bytes_eq}
+use Rattle.std.specs.Prelude.{position, slice_get, unwrap_or}
 use Rattle.std.proofs.lemmas.Bool.Decides.{Decides-ltb}
 use Rattle.std.proofs.lemmas.List.Quantifiers.{position-Some}
 use Rattle.std.proofs.lemmas.List.Sums.{position_or_len_is}
@@ -30,7 +31,8 @@ record IsPlacedFor (members : List Member) (grant : Grant) (placed : Placed) : T
   named : position (λ (m : Member). bytes_eq m.name grant.handset) members ≡ Some handset
   within : placed.watch < length (member_at members handset).plan
 
-placed_first : (ledger : LedgerValue) (grant : Grant) (a : Accepted) (placed : Placed) → IsLedger ledger → decided ledger grant ≡ Ok a → a.watch ≡ placed.watch
+placed_first : (ledger : LedgerValue) (grant : Grant) (a : Accepted) (placed : Placed) → IsLedger ledger
+    → decided ledger grant ≡ Ok a → a.watch ≡ placed.watch
     → IsPlacedFor ledger.members grant placed
 placed_first ledger grant a placed keeps e same =
     let d = decided_ok ledger grant a e in
@@ -39,25 +41,30 @@ placed_first ledger grant a placed keeps e same =
     record { handset = a.handset; named = d.handset; within = omega (arith, within, same) }
 
 placed_among : (tables : Tables) (desk : DeskValue) (grants : List Grant) (i : ℕ) (grant : Grant) (placed : Placed) → IsDesk desk
-    → slice_get grants i ≡ Some grant → slice_get (fates desk.ledger grants) i ≡ Some (Ok placed) → IsPlacedFor desk.ledger.members grant placed
+    → slice_get grants i ≡ Some grant → slice_get (fates desk.ledger grants) i ≡ Some (Ok placed)
+    → IsPlacedFor desk.ledger.members grant placed
 unfolding fates
 placed_among tables desk [] i grant placed h e f = absurd (let g : ⊥ = cc in g)
 placed_among tables desk (first ∷ grants) zero grant placed h e f =
     let (a, ok, same) = accepted_of (decided desk.ledger first) placed (same_answer _ _ f) in
-    subst (λ (g : Grant). IsPlacedFor desk.ledger.members g placed) (same_grant first grant e) (placed_first desk.ledger first a placed h.ledger ok same)
+    subst (λ (g : Grant). IsPlacedFor desk.ledger.members g placed) (same_grant first grant e)
+    (placed_first desk.ledger first a placed h.ledger ok same)
 placed_among tables desk (first ∷ grants) (suc i) grant placed h e f =
     subst (λ (ms : List Member). IsPlacedFor ms grant placed) (members_kept desk.ledger (decided desk.ledger first))
-    (placed_among tables (step tables desk first) grants i grant placed (desk_kept tables desk first (decided desk.ledger first) refl h) e f)
+    (placed_among tables (step tables desk first) grants i grant placed
+    (desk_kept tables desk first (decided desk.ledger first) refl h) e f)
 
 -- the first element that passes a test is found
-position_is : {X : Type 0} (p : X → Bool) (xs : List X) (i : ℕ) (d : X) → i < length xs → ((k : ℕ) → k < i → p (get_or xs k d) ≡ false)
+position_is : {X : Type 0} (p : X → Bool) (xs : List X) (i : ℕ) (d : X) → i < length xs
+    → ((k : ℕ) → k < i → p (get_or xs k d) ≡ false)
     → p (get_or xs i d) ≡ true → position p xs ≡ Some i
 position_is p xs i d l earlier here =
     ap (λ (n : ℕ). cond (nat_lt n (length xs)) (Some n) None) (position_or_len_is p xs i d (omega (arith, l)) earlier (λ _. here))
     ∙ ap (λ (b : Bool). cond b (Some i) None) ((Decides-ltb i (length xs)).1 l)
 
 -- an accepted grant is heard at a watch of the plan of the first handset of the cell that has the grant's name
-pub record IsHeardBy (cell : RawCell) (tables : Tables) (members : List Member) (grid : GridValue) (grant : Grant) (placed : Placed) : Type 0 where
+pub record IsHeardBy (cell : RawCell) (tables : Tables) (members : List Member) (grid : GridValue) (grant : Grant)
+    (placed : Placed) : Type 0 where
   pub handset : ℕ
   pub within : handset < length cell.handsets
   pub named : position (λ (h : Handset). bytes_eq h.name grant.handset) cell.handsets ≡ Some handset
@@ -77,7 +84,8 @@ named_alike cell frame slot desk word handset known e =
     let members = desk.ledger.members in
     let (l, here, earlier) = position-Some (λ (m : Member). bytes_eq m.name word) members handset no_member e in
     let within : handset < length cell.handsets = let n = known.count in omega (arith, l, n) in
-    let alike : (k : ℕ) → k < length cell.handsets → bytes_eq (member_at members k).name word ≡ bytes_eq (handset_at cell k).name word =
+    let alike : (k : ℕ) → k < length cell.handsets
+    → bytes_eq (member_at members k).name word ≡ bytes_eq (handset_at cell k).name word =
     λ k m. ap (λ (x : Member). bytes_eq x.name word) (known.each k m).member in
     let there : bytes_eq (handset_at cell handset).name word ≡ true = sym (alike handset within) ∙ here in
     record {
@@ -89,15 +97,18 @@ named_alike cell frame slot desk word handset known e =
     }
 
 -- each accepted grant is heard so
-pub heard_by : (cell : RawCell) (frame slot : ℕ) (tables : Tables) (desk : DeskValue) (grants : List Grant) (i : ℕ) (grant : Grant) (placed : Placed)
-    → AreTables tables → IsOpened cell frame slot desk → slice_get grants i ≡ Some grant → slice_get (fates desk.ledger grants) i ≡ Some (Ok placed)
+pub heard_by : (cell : RawCell) (frame slot : ℕ) (tables : Tables) (desk : DeskValue) (grants : List Grant) (i : ℕ)
+    (grant : Grant) (placed : Placed)
+    → AreTables tables → IsOpened cell frame slot desk → slice_get grants i ≡ Some grant
+    → slice_get (fates desk.ledger grants) i ≡ Some (Ok placed)
     → IsHeardBy cell tables desk.ledger.members (desk_after tables desk grants).grid grant placed
 heard_by cell frame slot tables desk grants i grant placed legal known e f =
     let members = desk.ledger.members in
     let p = placed_among tables desk grants i grant placed known.keeps e f in
     let n = named_alike cell frame slot desk grant.handset p.handset known p.named in
     let P : Option ℕ → Type 0 = λ o.
-    IsHeardAs tables (desk_after tables desk grants).grid (watch_at (member_at members (unwrap_or o 0)).plan placed.watch) grant placed.watch in
+    IsHeardAs tables (desk_after tables desk grants).grid (watch_at (member_at members (unwrap_or o 0)).plan placed.watch)
+    grant placed.watch in
     record {
       handset = p.handset;
       within = n.within;

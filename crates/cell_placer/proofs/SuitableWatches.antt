@@ -28,7 +28,8 @@ first_suits grant watches k e =
     let found = position-Some (is_suitable grant) watches k no_watch e in
     (found.0, suits grant (watch_at watches k) found.1)
 
-pub first_fits : (grant : Grant) (watches : List Watch) (k : ℕ) (w : Watch) → position (is_suitable grant) watches ≡ Some k → w ≡ get_or watches k w
+pub first_fits : (grant : Grant) (watches : List Watch) (k : ℕ) (w : Watch) → position (is_suitable grant) watches ≡ Some k
+    → w ≡ get_or watches k w
     → fits w grant.format ≡ true
 first_fits grant watches k w e f =
     let found = first_suits grant watches k e in

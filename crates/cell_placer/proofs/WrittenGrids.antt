@@ -19,7 +19,8 @@ pub record IsGridLike (old new : GridValue) : Type 0 where
   pub slot : new.slot ≡ old.slot
   pub blocks : new.blocks ≡ old.blocks
 
-one_written : (tables : Tables) (ledger : LedgerValue) (grant : Grant) (grid : GridValue) (r : Result Accepted Refusal) → IsGrid grid
+one_written : (tables : Tables) (ledger : LedgerValue) (grant : Grant) (grid : GridValue) (r : Result Accepted Refusal)
+    → IsGrid grid
     → IsGridLike grid (written tables ledger grant grid r)
 unfolding overwritten
 one_written tables ledger grant grid (Ok a) legal = record {
@@ -29,10 +30,12 @@ one_written tables ledger grant grid (Ok a) legal = record {
   slot = refl;
   blocks = refl;
 }
-one_written tables ledger grant grid (Err refusal) legal = record { grid = legal; mu = refl; frame = refl; slot = refl; blocks = refl }
+one_written tables ledger grant grid (Err refusal) legal =
+    record { grid = legal; mu = refl; frame = refl; slot = refl; blocks = refl }
 
 -- all grants
-pub all_written : (tables : Tables) (desk : DeskValue) (grants : List Grant) → IsGrid desk.grid → IsGridLike desk.grid (desk_after tables desk grants).grid
+pub all_written : (tables : Tables) (desk : DeskValue) (grants : List Grant) → IsGrid desk.grid
+    → IsGridLike desk.grid (desk_after tables desk grants).grid
 unfolding desk_after
 all_written tables desk [] legal = record { grid = legal; mu = refl; frame = refl; slot = refl; blocks = refl }
 all_written tables desk (grant ∷ grants) legal =

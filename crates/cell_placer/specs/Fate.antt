@@ -1,5 +1,6 @@
 -- What becomes of a grant: the watch at which it is written, or the first cause against it.
-use Rattle.std.specs.Prelude.{ℕ, Bool, true, false, ◌&&◌, ◌==◌, nat_lt, cond, List, Option, Some, None, is_none, unwrap_or, option_map, Result, Ok, Err, length, find, position, bytes_eq}
+use Rattle.std.specs.Prelude.{ℕ, Bool, true, false, ◌&&◌, ◌==◌, nat_lt, cond, List, Option, Some, None, is_none}
+use Rattle.std.specs.Prelude.{unwrap_or, option_map, Result, Ok, Err, length, find, position, bytes_eq}
 use Rattle.std.specs.List.{list_any}
 use Rattle.dci_fields.specs.declared.fault.FieldFault.{FieldFault}
 use Rattle.dci_fields.specs.FirstFieldFault.{field_fault}

@@ -12,7 +12,8 @@ use Rattle.cell_placer.specs.Placing.{DeskValue, IsDesk}
 pub record IsOpened (cell : RawCell) (frame slot : ℕ) (desk : DeskValue) : Type 0 where
   pub keeps : IsDesk desk
   pub count : length desk.ledger.members ≡ length cell.handsets
-  pub each : (handset : ℕ) → handset < length cell.handsets → IsMade cell handset frame slot (member_at desk.ledger.members handset)
+  pub each : (handset : ℕ) → handset < length cell.handsets
+      → IsMade cell handset frame slot (member_at desk.ledger.members handset)
   pub blank : desk.grid ≡ blank_grid cell.mu frame slot cell.blocks
 
 -- so it is with each that there is

@@ -1,5 +1,6 @@
 -- Which call owns each REG of the slot, so that the grants that were accepted need no walk.
-use Rattle.std.specs.Prelude.{◌≡◌, ℕ, ◌+◌, ◌*◌, ◌<◌, nat_lt, cond, List, Option, Some, None, option_map, length, find, fold, slice_index_or, slice_set}
+use Rattle.std.specs.Prelude.{◌≡◌, ℕ, ◌+◌, ◌*◌, ◌<◌, nat_lt, cond, List, Option, Some, None, option_map, length, find}
+use Rattle.std.specs.Prelude.{fold, slice_index_or, slice_set}
 use Rattle.coreset_map.specs.declared.places.Reg.{Reg}
 use Rattle.monitor_plan.specs.Watch.{has_reg}
 use Rattle.cell_placer.specs.declared.member.Member.{Member}

@@ -9,7 +9,9 @@ abbrev pub is_asked : Option ℕ → ℕ → Bool
 is_asked None n = true
 is_asked (Some asked) n = n == asked
 
--- the watch is of the grant's set and level, the grant's format fits it, and it has the candidate and the symbol that are asked for
+-- the watch is of the grant's set and level, the grant's format fits it, and it has the candidate and the symbol that are asked
+-- for
 abbrev pub is_suitable : Grant → Watch → Bool
 is_suitable grant w =
-    w.set == grant.set && (w.level == grant.level && (fits w grant.format && (is_asked grant.candidate w.candidate && is_asked grant.symbol w.symbol)))
+    w.set == grant.set && (w.level == grant.level
+    && (fits w grant.format && (is_asked grant.candidate w.candidate && is_asked grant.symbol w.symbol)))

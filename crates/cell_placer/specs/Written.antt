@@ -6,8 +6,9 @@ use Rattle.table_files.specs.declared.tables.Tables.{Tables}
 use Rattle.rrc_settings.specs.declared.settings.RawCell.{RawCell}
 use Rattle.monitor_plan.specs.declared.watch.Watch.{Watch}
 use Rattle.monitor_plan.specs.Watch.{watch_at}
-use Rattle.dci_codec.specs.Hearing.{AreTables, Spells, heard_at, heard_of}
+use Rattle.dci_codec.specs.Hearing.{AreTables, Spells, heard_of}
 use Rattle.dci_codec.specs.Spelled.{spelling_by}
+use Rattle.dci_codec.specs.TheSpelling.{heard_at}
 use Rattle.grant_file.specs.declared.grants.Grant.{Grant}
 use Rattle.cell_placer.specs.declared.member.Member.{Member}
 use Rattle.cell_placer.specs.declared.member.Accepted.{Accepted}
@@ -43,7 +44,8 @@ ledger_after ledger (grant ∷ grants) = ledger_after (next ledger grant) grants
 -- whatever the tables
 pub record WritesTheAccepted : Type 0 where
   pub grid : (tables : Tables) (desk : DeskValue) (grants : List Grant)
-      → (desk_after tables desk grants).grid ≡ all_overwritten (accepted_images tables desk.grid.slot desk.ledger grants) desk.grid
+      → (desk_after tables desk grants).grid
+      ≡ all_overwritten (accepted_images tables desk.grid.slot desk.ledger grants) desk.grid
   pub ledger : (tables : Tables) (desk : DeskValue) (grants : List Grant)
       → (desk_after tables desk grants).ledger ≡ ledger_after desk.ledger grants
   pub blank : (cell : RawCell) (frame slot room : ℕ) (desk : DeskValue) → opened cell frame slot room ≡ Ok desk
@@ -63,6 +65,8 @@ IsHeardAs tables grid watch grant number =
 -- so it is with each accepted one on the grid that all grants leave
 abbrev pub HearsEachAccepted : Type 0
 HearsEachAccepted =
-    (tables : Tables) (desk : DeskValue) (grants : List Grant) (i : ℕ) (grant : Grant) (placed : Placed) → AreTables tables → IsDesk desk
+    (tables : Tables) (desk : DeskValue) (grants : List Grant) (i : ℕ) (grant : Grant) (placed : Placed) → AreTables tables
+    → IsDesk desk
     → slice_get grants i ≡ Some grant → slice_get (fates desk.ledger grants) i ≡ Some (Ok placed)
-    → IsHeardAs tables (desk_after tables desk grants).grid (watch_at (watches_for desk.ledger.members grant) placed.watch) grant placed.watch
+    → IsHeardAs tables (desk_after tables desk grants).grid (watch_at (watches_for desk.ledger.members grant) placed.watch)
+    grant placed.watch

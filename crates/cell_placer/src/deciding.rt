@@ -54,7 +54,8 @@ fn decided_among(
     requires sound { IsSound first.now }
     requires inside { IsInside ledger.now.blocks first.now }
     requires fitting { fits first.now grant.now.format ≡ true }
-    ensures { result ≡ by_fault ledger.now grant.now handset watches.now first.now (field_fault (list_of first.now grant.now.format) grant.now.format grant.now.given) }
+    ensures { result ≡ by_fault ledger.now grant.now handset watches.now first.now
+        (field_fault (list_of first.now grant.now.format) grant.now.format grant.now.given) }
 {
     if let Some(fault) = fault_of(first, grant) {
         return Err(Refusal::Field(fault));

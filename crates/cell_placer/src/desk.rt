@@ -52,7 +52,8 @@ impl Desk {
         requires room { room ≤ 4096 }
         ensures opened { IfOk result (λ desk. opened cell.now frame slot room ≡ Ok desk) }
         ensures over { (handset candidates cces : ℕ) →
-            (result ≡ Err (DeskFault.CommonOver handset candidates cces)) ↔ (opened cell.now frame slot room ≡ Err (slot_over handset candidates cces)) }
+            (result ≡ Err (DeskFault.CommonOver handset candidates cces))
+            ↔ (opened cell.now frame slot room ≡ Err (slot_over handset candidates cces)) }
         ensures desk { IfOk result (λ desk. IsDesk desk) }
     {
         desk_of(alloc, cell, frame, slot, room)

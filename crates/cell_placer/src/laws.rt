@@ -4,7 +4,8 @@ ghost use Rattle.cell_placer.specs.Earliest.{NamesTheEarliest};
 ghost use Rattle.cell_placer.specs.OpenedDesk.{OpensADesk};
 ghost use Rattle.cell_placer.specs.Written.{HearsEachAccepted, WritesTheAccepted};
 
-/// The desk of a slot of a legal cell keeps what each desk keeps, has the handsets of the cell with their plans, and a blank grid.
+/// The desk of a slot of a legal cell keeps what each desk keeps, has the handsets of the cell with their plans, and a
+/// blank grid.
 pub fn opens_a_desk()
     ensures { OpensADesk }
 {}

@@ -44,7 +44,8 @@ impl Ledger {
         room: u32,
     ) -> Result<Ledger, AllocError>
         requires members { All (IsMember blocks) members.items }
-        ensures { IfOk result (λ ledger. ledger ≡ record { blocks = blocks; members = members.items; room = room; calls = 0; accepted = [] }) }
+        ensures { IfOk result (λ ledger. ledger
+            ≡ record { blocks = blocks; members = members.items; room = room; calls = 0; accepted = [] }) }
     {
         let size = 14 * usize::from(blocks);
         let accepted = Vec::with_capacity(alloc, room as usize)?;

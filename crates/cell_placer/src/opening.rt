@@ -26,9 +26,11 @@ pub(crate) fn members_of(
 ) -> Result<Vec<Member>, DeskFault>
     requires frame { frame ≤ 1023 }
     requires slot { slot < 10 * 2 ^ cell.now.mu }
-    ensures made { IfOk result (λ members. members_at cell.now frame slot (range_with_len 0 (length cell.now.handsets)) ≡ Ok members.items) }
+    ensures made { IfOk result (λ members. members_at cell.now frame slot (range_with_len 0 (length cell.now.handsets))
+        ≡ Ok members.items) }
     ensures known { IfOk result (λ members. All (IsMember cell.now.blocks) members.items) }
-    ensures fault { IfErr result (λ fault. Tells fault (members_at cell.now frame slot (range_with_len 0 (length cell.now.handsets)))) }
+    ensures fault { IfErr result (λ fault. Tells fault
+        (members_at cell.now frame slot (range_with_len 0 (length cell.now.handsets)))) }
 {
     let mut members = Vec::new(alloc);
     for handset in 0..cell.raw().handsets.as_slice().len() {

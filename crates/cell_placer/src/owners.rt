@@ -14,7 +14,8 @@ pub(crate) fn least_owner(
     regs: &[Reg],
 ) -> Option<u32>
     requires size { length owners.now ≡ 14 * blocks }
-    requires inside { (j : ℕ) → j < length regs.now → (symbol + (reg_at regs.now j).symbol < 14) × ((reg_at regs.now j).block < blocks) }
+    requires inside { (j : ℕ) → j < length regs.now
+        → (symbol + (reg_at regs.now j).symbol < 14) × ((reg_at regs.now j).block < blocks) }
     ensures { result ≡ least_owner owners.now blocks symbol regs.now }
 {
     let mut best = None;
@@ -28,7 +29,8 @@ pub(crate) fn least_owner(
 #[tactic(auto, unfolding(crate::specs::Owners::owned))]
 pub(crate) fn own(owners: &mut [Option<u32>], blocks: u16, symbol: u8, regs: &[Reg], call: u32)
     requires size { length owners.old ≡ 14 * blocks }
-    requires inside { (j : ℕ) → j < length regs.now → (symbol + (reg_at regs.now j).symbol < 14) × ((reg_at regs.now j).block < blocks) }
+    requires inside { (j : ℕ) → j < length regs.now
+        → (symbol + (reg_at regs.now j).symbol < 14) × ((reg_at regs.now j).block < blocks) }
     ensures { owners.new ≡ owned call blocks symbol owners.old regs.now }
 {
     for reg in regs {

@@ -19,7 +19,8 @@ pub enum Refusal {
     Unmonitored,
     /// The field values make no payload.
     Field(FieldFault),
-    /// Each place where the handset looks for it is taken. This grant was accepted first of those that have a REG of the first such place.
+    /// Each place where the handset looks for it is taken. This grant was accepted first of those that have a REG of
+    /// the first such place.
     Overlap { earlier: u32 },
     /// As many grants as there is room for were accepted before.
     Full { room: u32 },

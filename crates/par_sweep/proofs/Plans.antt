@@ -1,5 +1,6 @@
 -- In each slot of the load there is a desk, and each handset has a plan: no set is common.
-use Rattle.std.proofs.Common.{◌≡◌, ℕ, zero, suc, ◌+◌, ◌/◌, ◌%◌, ◌<◌, ◌≤◌, Bool, true, false, ◌&&◌, ◌==◌, cond, List, [], ◌∷◌, ◌++◌, Result, Ok, length, refl, ap, sym, ◌∙◌, arith}
+use Rattle.std.proofs.Common.{◌≡◌, ℕ, zero, suc, ◌+◌, ◌/◌, ◌%◌, ◌<◌, ◌≤◌, Bool, true, false, ◌&&◌, ◌==◌, cond, List, []}
+use Rattle.std.proofs.Common.{◌∷◌, ◌++◌, Result, Ok, length, refl, ap, sym, ◌∙◌, arith}
 use Rattle.std.specs.List.{range_with_len, flat_map}
 use Rattle.std.specs.Result.{result_unwrap_or}
 use Rattle.rrc_settings.specs.declared.settings.RawCell.{RawCell}
@@ -26,8 +27,8 @@ record Has {A E : Type 0} (r : Result A E) : Type 0 where
   value : A
   is : r ≡ Ok value
 
-has-unwrapped : {A E : Type 0} (r : Result A E) (other : A) → Has r → r ≡ Ok (result_unwrap_or r other)
-has-unwrapped {A = A} {E = E} r other h =
+has_unwrapped : {A E : Type 0} (r : Result A E) (other : A) → Has r → r ≡ Ok (result_unwrap_or r other)
+has_unwrapped {A = A} {E = E} r other h =
     h.is ∙ ap (λ (x : A). Ok x) (sym (ap (λ (x : Result A E). result_unwrap_or x other) h.is))
 
 -- no set of a handset is common
@@ -64,10 +65,15 @@ has_plan h frame slot l =
     let keeps : keep_limits load_cell x sizes (common_sets load_cell x frame slot) ≡ true =
     ap (keep_limits load_cell x sizes) none ∙ none_keep x sizes
     in
-    record { value = _; is = plan-fits load_cell h frame slot sizes _ refl (sym (allotted-fits load_cell x sizes frame slot keeps)) }
+    record {
+      value = _;
+      is = plan-fits load_cell h frame slot sizes _ refl
+          (sym (allotted-fits load_cell x sizes frame slot keeps));
+    }
 
 -- so there are members for handsets
-has_members : (frame slot first count : ℕ) → first + count ≤ 32 → Has (members_at load_cell frame slot (range_with_len first count))
+has_members : (frame slot first count : ℕ) → first + count ≤ 32
+    → Has (members_at load_cell frame slot (range_with_len first count))
 has_members frame slot first zero h = record { value = []; is = none_left load_cell frame slot }
 has_members frame slot first (suc count) h =
     let places = range_with_len (first + 1) count in
@@ -97,6 +103,6 @@ pub record IsNew (t : ℕ) : Type 0 where
 pub plans_every_slot : PlansEverySlot
 unfolding slot_desk slot_watches
 plans_every_slot t = record {
-  desk = has-unwrapped (opened load_cell (t / 10) (t % 10) 64) no_desk (has_desk (t / 10) (t % 10));
-  watches = λ h l. has-unwrapped (planned load_cell h (t / 10) (t % 10)) [] (has_plan h (t / 10) (t % 10) l);
+  desk = has_unwrapped (opened load_cell (t / 10) (t % 10) 64) no_desk (has_desk (t / 10) (t % 10));
+  watches = λ h l. has_unwrapped (planned load_cell h (t / 10) (t % 10)) [] (has_plan h (t / 10) (t % 10) l);
 }

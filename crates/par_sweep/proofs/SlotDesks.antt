@@ -1,5 +1,6 @@
 -- The desk of a slot of the load, and the grid that its grants leave.
-use Rattle.std.proofs.Common.{◌≡◌, ℕ, ◌/◌, ◌%◌, ◌*◌, ◌<◌, List, [], ◌∷◌, ◌++◌, Result, Ok, Err, map, length, ap, sym, subst, ◌∙◌, arith, length-append}
+use Rattle.std.proofs.Common.{◌≡◌, ℕ, ◌/◌, ◌%◌, ◌*◌, ◌<◌, List, [], ◌∷◌, ◌++◌, Result, Ok, Err, map, length, ap, sym}
+use Rattle.std.proofs.Common.{subst, ◌∙◌, arith, length-append}
 use Rattle.std.specs.Prelude.{OnOk}
 use Rattle.std.specs.List.{range_with_len}
 use Rattle.std.proofs.lemmas.List.{length-replicate}
@@ -37,7 +38,13 @@ unfolding load_grants
 count_of_grants t =
     let down = map (load_grant t F10) (range_with_len 0 32) in
     let up = map (load_grant t F00) (range_with_len 0 32) in
-    omega (arith, length-append down up, length-map-range_with_len (load_grant t F10) 0 32, length-map-range_with_len (load_grant t F00) 0 32)
+    omega (
+      arith,
+      length-append down up,
+      length-map-range_with_len (load_grant t F10) 0 32,
+      length-map-range_with_len
+          (load_grant t F00) 0 32,
+    )
 
 new_calls : (cell : RawCell) (frame slot room : ℕ) (members : Result (List Member) SlotOver) (desk : DeskValue)
     → new_desk cell frame slot room members ≡ Ok desk → desk.ledger.calls ≡ 0
@@ -73,15 +80,18 @@ blocks_of tables t h =
     ∙ ap (λ (g : GridValue). g.blocks) (blank_of t)
 
 -- the grid and the counts of a slot, where its grants were placed on its desk
-pub grid_of : (tables : Tables) (t : ℕ) (desk after : DeskValue) (grants : List Grant) (grid : GridValue) → desk ≡ slot_desk t → grants ≡ (load_grants t).grants
+pub grid_of : (tables : Tables) (t : ℕ) (desk after : DeskValue) (grants : List Grant) (grid : GridValue)
+    → desk ≡ slot_desk t → grants ≡ (load_grants t).grants
     → after ≡ desk_after tables desk grants → grid ≡ after.grid → grid ≡ slot_grid tables t
 unfolding slot_grid
 grid_of tables t desk after grants grid d g a e =
     e ∙ ap (λ (x : DeskValue). x.grid) a ∙ ap (λ (x : DeskValue). (desk_after tables x grants).grid) d
     ∙ ap (λ (gs : List Grant). (desk_after tables (slot_desk t) gs).grid) g
 
-pub counts_there : (t : ℕ) (desk : DeskValue) (grants : List Grant) (counts : Counts) → desk ≡ slot_desk t → grants ≡ (load_grants t).grants
+pub counts_there : (t : ℕ) (desk : DeskValue) (grants : List Grant) (counts : Counts) → desk ≡ slot_desk t
+    → grants ≡ (load_grants t).grants
     → counts ≡ counts_of (fates desk.ledger grants) → counts ≡ slot_counts t
 unfolding slot_counts
 counts_there t desk grants counts d g e =
-    e ∙ ap (λ (x : DeskValue). counts_of (fates x.ledger grants)) d ∙ ap (λ (gs : List Grant). counts_of (fates (slot_desk t).ledger gs)) g
+    e ∙ ap (λ (x : DeskValue). counts_of (fates x.ledger grants)) d
+    ∙ ap (λ (gs : List Grant). counts_of (fates (slot_desk t).ledger gs)) g

@@ -14,7 +14,8 @@ pub record AreSums (totals : List SlotTotals) (n : ℕ) (sums : Sums) : Type 0 w
   pub heard : sums.heard ≤ n * 4294967295
 
 -- the sums with those of the next slot
-pub sums_more : (totals : List SlotTotals) (n : ℕ) (sums : Sums) (slot : SlotTotals) → n < length totals → slot ≡ get_or totals n slot
+pub sums_more : (totals : List SlotTotals) (n : ℕ) (sums : Sums) (slot : SlotTotals) → n < length totals
+    → slot ≡ get_or totals n slot
     → sums ≡ sums_of (take n totals) → added sums slot ≡ sums_of (take (n + 1) totals)
 sums_more totals n sums slot h at e =
     let so_far = sums_of (take n totals) in
@@ -29,5 +30,6 @@ sums_more totals n sums slot h at e =
     ∙ ap (λ (x : ℕ). record { placed = all.placed; overlapped = all.overlapped; heard = x }) (sym heard)
 
 -- the sums over all slots
-pub sums_all : (totals : List SlotTotals) (n : ℕ) (sums : Sums) → length totals ≤ n → sums ≡ sums_of (take n totals) → sums ≡ sums_of totals
+pub sums_all : (totals : List SlotTotals) (n : ℕ) (sums : Sums) → length totals ≤ n → sums ≡ sums_of (take n totals)
+    → sums ≡ sums_of totals
 sums_all totals n sums h e = e ∙ ap sums_of (take_all n totals h)

@@ -10,8 +10,6 @@ mod pushing;
 mod slots;
 mod summary;
 mod sweep;
-#[cfg(test)]
-mod tests;
 mod totals;
 
 pub use gate::{Gate, OpenGate};

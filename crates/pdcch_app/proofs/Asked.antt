@@ -1,5 +1,6 @@
 -- What the words of `explain` ask for: a handset by its name, and a watch by its number.
-use Rattle.std.proofs.Common.{◌≡◌, ℕ, ◌<◌, true, eqb, List, [], ◌∷◌, Option, Some, None, String, length, get_or, slice_get, refl, subst, arith}
+use Rattle.std.proofs.Common.{◌≡◌, ℕ, ◌<◌, true, eqb, List, [], ◌∷◌, Option, Some, None, String, length, get_or}
+use Rattle.std.proofs.Common.{slice_get, refl, subst, arith}
 use Rattle.std.specs.String.{string_bytes}
 use Rattle.std.specs.declared.alloc.Global.{Global}
 use Rattle.std.proofs.lemmas.Bool.Decides.{nat_tests}
@@ -8,20 +9,24 @@ use Rattle.pdcch_app.specs.declared.arguments.Flag.TheVariants.{Handset, Watch}
 use Rattle.pdcch_app.specs.declared.words.Command.TheVariants.{Explain}
 use Rattle.pdcch_app.specs.Arguments.{Argument, arguments, arguments_after, are_formed, is_number, texts_under}
 use Rattle.pdcch_app.specs.Words.{command_of, handset, legal, value, watch}
-use Rattle.pdcch_app.proofs.Spellings.{are_parts, both, taken}
+use Rattle.pdcch_app.proofs.Spellings.{are_parts, taken}
+use Rattle.std.proofs.lemmas.Bool.{and_parts}
 
 -- the value of `--watch` is a number, by the first argument
-first_number : (flag : Option Flag) (text : List ℕ) (list : List Argument) (word : List ℕ) → are_formed (record { flag = flag; text = text } ∷ list) ≡ true
+first_number : (flag : Option Flag) (text : List ℕ) (list : List Argument) (word : List ℕ)
+    → are_formed (record { flag = flag; text = text } ∷ list) ≡ true
     → slice_get (texts_under (Some Watch) (record { flag = flag; text = text } ∷ list)) 0 ≡ Some word
-    → (are_formed list ≡ true → slice_get (texts_under (Some Watch) list) 0 ≡ Some word → is_number word ≡ true) → is_number word ≡ true
+    → (are_formed list ≡ true → slice_get (texts_under (Some Watch) list) 0 ≡ Some word → is_number word ≡ true)
+    → is_number word ≡ true
 first_number None text list word f e later = later f e
 first_number (Some Handset) text list word f e later = later f e
 first_number (Some Watch) text list word f e later =
     let same : text ≡ word = cc in
-    subst (λ t. is_number t ≡ true) same (both (is_number text) (are_formed list) f).0
+    subst (λ t. is_number t ≡ true) same (and_parts (is_number text) (are_formed list) f).0
 
 -- and by all
-numbers : (list : List Argument) (word : List ℕ) → are_formed list ≡ true → slice_get (texts_under (Some Watch) list) 0 ≡ Some word → is_number word ≡ true
+numbers : (list : List Argument) (word : List ℕ) → are_formed list ≡ true
+    → slice_get (texts_under (Some Watch) list) 0 ≡ Some word → is_number word ≡ true
 numbers [] word f e = absurd (let g : ⊥ = cc in g)
 numbers (a ∷ list) word f e = first_number a.flag a.text list word f e (λ g k. numbers list word g k)
 
@@ -48,10 +53,10 @@ asks_both (w ∷ ws) h =
     let numbered = texts_under (Some Watch) list in
     let is = taken (command_of (string_bytes w)) list Explain h in
     let parts = are_parts Explain list is.1 in
-    let many = both (eqb (length (texts_under None list)) 4) _ parts.many in
-    let options = both (eqb (length named) 1) _ many.1 in
+    let many = and_parts (eqb (length (texts_under None list)) 4) _ parts.many in
+    let options = and_parts (eqb (length named) 1) _ many.1 in
     let one_name : length named ≡ 1 = is_one (length named) options.0 in
-    let one_number : length numbered ≡ 1 = is_one (length numbered) (both (eqb (length numbered) 1) _ options.1).0 in
+    let one_number : length numbered ≡ 1 = is_one (length numbered) (and_parts (eqb (length numbered) 1) _ options.1).0 in
     let word = only_one numbered one_number in
     record {
       handset_stands = omega (arith, one_name);

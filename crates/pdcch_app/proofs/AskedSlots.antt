@@ -1,5 +1,6 @@
 -- What stands under no option: the number of slots of `sweep`, and the files behind it.
-use Rattle.std.proofs.Common.{◌≡◌, ℕ, ◌+◌, ◌<◌, ◌≤◌, Bool, true, false, ◌&&◌, eqb, leb, List, [], ◌∷◌, Some, None, String, length, take, get_or, slice_get, refl, sym, ap, ◌∙◌, arith}
+use Rattle.std.proofs.Common.{◌≡◌, ℕ, ◌+◌, ◌<◌, ◌≤◌, Bool, true, false, ◌&&◌, eqb, leb, List, [], ◌∷◌, Some, None}
+use Rattle.std.proofs.Common.{String, length, take, get_or, slice_get, refl, sym, ap, ◌∙◌, arith}
 use Rattle.std.specs.List.{list_all}
 use Rattle.std.specs.String.{string_bytes}
 use Rattle.std.specs.declared.alloc.Global.{Global}
@@ -10,14 +11,13 @@ use Rattle.pdcch_app.specs.declared.words.Command.{Command}
 use Rattle.pdcch_app.specs.declared.words.Command.TheVariants.{Write, Search, Explain, Sweep}
 use Rattle.pdcch_app.specs.Arguments.{arguments, arguments_after, is_number, number_of, texts_under}
 use Rattle.pdcch_app.specs.Words.{command_of, count_of, file, files, is_slots, legal, numbers_before, slots}
-use Rattle.pdcch_app.proofs.Spellings.{are_parts, both, taken}
-
-and_true : (b : Bool) → (b && true) ≡ b
-and_true true = refl
-and_true false = refl
+use Rattle.pdcch_app.proofs.Spellings.{are_parts, taken}
+use Rattle.std.proofs.lemmas.Bool.{and_parts}
+use Rattle.list_facts.proofs.Tests.{and_true}
 
 -- the first of some texts decides
-pub by_the_first : (texts : List (List ℕ)) (text : List ℕ) → slice_get texts 0 ≡ Some text → list_all is_slots (take 1 texts) ≡ is_slots text
+pub by_the_first : (texts : List (List ℕ)) (text : List ℕ) → slice_get texts 0 ≡ Some text
+    → list_all is_slots (take 1 texts) ≡ is_slots text
 by_the_first [] text e = absurd (let f : ⊥ = cc in f)
 by_the_first (other ∷ texts) text e =
     let same : other ≡ text = cc in
@@ -28,16 +28,19 @@ by_no_first [] e = refl
 by_no_first (other ∷ texts) e = absurd (let f : ⊥ = cc in f)
 
 -- as many arguments under no option as a command takes
-pub as_many : (words : List (String Global)) (command : Command) → legal words ≡ Some command → length (texts_under None (arguments words)) ≡ numbers_before command + count_of command
+pub as_many : (words : List (String Global)) (command : Command) → legal words ≡ Some command
+    → length (texts_under None (arguments words)) ≡ numbers_before command + count_of command
 as_many [] command h = absurd (let f : ⊥ = cc in f)
 as_many (w ∷ ws) command h =
     let list = arguments_after None ws in
     let is = taken (command_of (string_bytes w)) list command h in
-    let count = both (eqb (length (texts_under None list)) (numbers_before command + count_of command)) _ (are_parts command list is.1).many in
+    let count = and_parts (eqb (length (texts_under None list)) (numbers_before command + count_of command)) _
+    (are_parts command list is.1).many in
     grind (arith, nat_tests, count.0)
 
 -- so that legal words name as many files as their command takes
-pub files_are : (words : List (String Global)) (command : Command) → legal words ≡ Some command → length (files command words) ≡ count_of command
+pub files_are : (words : List (String Global)) (command : Command) → legal words ≡ Some command
+    → length (files command words) ≡ count_of command
 files_are words command h =
     let texts = texts_under None (arguments words) in
     omega (arith, as_many words command h, length-drop (numbers_before command) texts)
@@ -62,8 +65,8 @@ asks_slots (w ∷ ws) h =
     let is = taken (command_of (string_bytes w)) list Sweep h in
     let first = three_texts texts (as_many (w ∷ ws) Sweep h) in
     let all : is_slots text ≡ true = sym (by_the_first texts text first) ∙ (are_parts Sweep list is.1).numbers in
-    let below = both (is_number text && leb 1 (number_of text)) (leb (number_of text) 200) all in
-    let above = both (is_number text) (leb 1 (number_of text)) below.0 in
+    let below = and_parts (is_number text && leb 1 (number_of text)) (leb (number_of text) 200) all in
+    let above = and_parts (is_number text) (leb 1 (number_of text)) below.0 in
     record {
       stands = first;
       number = above.0;
@@ -84,12 +87,15 @@ file_within : (command : Command) (words : List (String Global)) (place : ℕ) �
 file_within command words place l = omega (arith, l, length-drop (numbers_before command) (texts_under None (arguments words)))
 
 pub file_is : (command : Command) (words : List (String Global)) (place : ℕ) (text : List ℕ)
-    → slice_get (texts_under None (arguments words)) (numbers_before command + place) ≡ Some text → text ≡ file command words place
+    → slice_get (texts_under None (arguments words)) (numbers_before command + place) ≡ Some text
+    → text ≡ file command words place
 file_is command words place text e =
     let texts = texts_under None (arguments words) in
-    sym (get_or-drop (numbers_before command) texts place [] ∙ get_or_from_slice_get texts (numbers_before command + place) text [] e)
+    sym (get_or-drop (numbers_before command) texts place []
+    ∙ get_or_from_slice_get texts (numbers_before command + place) text [] e)
 
 pub file_there : (command : Command) (words : List (String Global)) (place : ℕ) → place < length (files command words)
-    → slice_get (texts_under None (arguments words)) (numbers_before command + place) ≡ Some (get_or (texts_under None (arguments words)) (numbers_before command + place) [])
+    → slice_get (texts_under None (arguments words)) (numbers_before command + place)
+    ≡ Some (get_or (texts_under None (arguments words)) (numbers_before command + place) [])
 file_there command words place l =
     slice_get-get_or (texts_under None (arguments words)) (numbers_before command + place) [] (file_within command words place l)

@@ -27,13 +27,17 @@ grid_job Explain words cell tables points = explained cell tables points (value 
 grid_job _ words cell tables points = searched cell tables points (handset words)
 
 -- the ways in which such a command ends with a grid that was read
-pub grid_job_ends : (C : Status → Type 0) (words : List (String Global)) (command : Command) (cell : RawCell) (tables : Tables) (points : GridValue)
+pub grid_job_ends : (C : Status → Type 0) (words : List (String Global)) (command : Command) (cell : RawCell)
+    (tables : Tables) (points : GridValue)
     → legal words ≡ Some command → takes_grid command ≡ true
     → ((name : List ℕ) → handset words ≡ Some name → (IsNamed cell name → ⊥) → C ends.NoSuch)
     → (SomeExceeds cell (handset words) points.frame points.slot → C ends.SlotRefused)
-    → ((watches : List Watch) (word : List ℕ) → legal words ≡ Some Explain → AsksWatch words cell points watches word → length watches ≤ number_of word → C ends.NoSuch)
-    → (legal words ≡ Some Search → ((name : List ℕ) → handset words ≡ Some name → IsNamed cell name) → (SomeExceeds cell (handset words) points.frame points.slot → ⊥) → C ends.Done)
-    → ((watches : List Watch) (word : List ℕ) → legal words ≡ Some Explain → AsksWatch words cell points watches word → number_of word < length watches → C ends.Done)
+    → ((watches : List Watch) (word : List ℕ) → legal words ≡ Some Explain → AsksWatch words cell points watches word
+    → length watches ≤ number_of word → C ends.NoSuch)
+    → (legal words ≡ Some Search → ((name : List ℕ) → handset words ≡ Some name → IsNamed cell name)
+    → (SomeExceeds cell (handset words) points.frame points.slot → ⊥) → C ends.Done)
+    → ((watches : List Watch) (word : List ℕ) → legal words ≡ Some Explain → AsksWatch words cell points watches word
+    → number_of word < length watches → C ends.Done)
     → C (ended (grid_job command words cell tables points)).status
 grid_job_ends C words Write cell tables points h g unnamed over unknown searched_all watch_told = absurd (let f : ⊥ = cc in f)
 grid_job_ends C words Sweep cell tables points h g unnamed over unknown searched_all watch_told = absurd (let f : ⊥ = cc in f)
@@ -43,21 +47,32 @@ grid_job_ends C words Explain cell tables points h g unnamed over unknown search
     let asks = asks_both words h in
     let name = value words flags.Handset in
     let word = value words flags.Watch in
-    let asked : (k : ℕ) (watches : List Watch) → handset_named cell name ≡ Some k → planned cell k points.frame points.slot ≡ Ok watches → AsksWatch words cell points watches word
-    = λ k watches e p. record { name = name; named = asks.handset_is; handset = k; served = e; planned_is = p; asked = asks.watch_is } in
+    let asked : (k : ℕ) (watches : List Watch) → handset_named cell name ≡ Some k
+    → planned cell k points.frame points.slot ≡ Ok watches → AsksWatch words cell points watches word
+    = λ k watches e p. record {
+      name = name;
+      named = asks.handset_is;
+      handset = k;
+      served = e;
+      planned_is = p;
+      asked =
+          asks.watch_is;
+    } in
     explain_ends C cell tables points name word (unnamed name asks.handset_is)
     (λ some. over (subst (λ (o : Option (List ℕ)). SomeExceeds cell o points.frame points.slot) (sym asks.handset_is) some))
     (λ k watches e p l. unknown watches word h (asked k watches e p) l)
     (λ k watches e p l. watch_told watches word h (asked k watches e p) l)
 
 -- a handset that is served by its name has it
-pub served_by_name : (cell : RawCell) (frame slot : ℕ) (sought : Option (List ℕ)) (name : List ℕ) → sought ≡ Some name → SomeExceeds cell sought frame slot → IsNamed cell name
+pub served_by_name : (cell : RawCell) (frame slot : ℕ) (sought : Option (List ℕ)) (name : List ℕ) → sought ≡ Some name
+    → SomeExceeds cell sought frame slot → IsNamed cell name
 served_by_name cell frame slot sought name e some =
     let here : SomeExceeds cell (Some name) frame slot = subst (λ (o : Option (List ℕ)). SomeExceeds cell o frame slot) e some in
     named_is cell name here.handset here.served
 
 -- so has one whose watch is asked for
-pub asked_by_name : (words : List (String Global)) (cell : RawCell) (points : GridValue) (watches : List Watch) (word name : List ℕ) → handset words ≡ Some name
+pub asked_by_name : (words : List (String Global)) (cell : RawCell) (points : GridValue) (watches : List Watch)
+    (word name : List ℕ) → handset words ≡ Some name
     → AsksWatch words cell points watches word → IsNamed cell name
 asked_by_name words cell points watches word name e asks =
     let both_are = sym asks.named ∙ e in
@@ -65,7 +80,8 @@ asked_by_name words cell points watches word name e asks =
     subst (IsNamed cell) same (named_is cell asks.name asks.handset asks.served)
 
 -- the common sets of a handset that has its watches do not exceed a limit
-pub asked_within : (words : List (String Global)) (cell : RawCell) (points : GridValue) (watches : List Watch) (word : List ℕ) → AsksWatch words cell points watches word
+pub asked_within : (words : List (String Global)) (cell : RawCell) (points : GridValue) (watches : List Watch)
+    (word : List ℕ) → AsksWatch words cell points watches word
     → SomeExceeds cell (handset words) points.frame points.slot → ⊥
 asked_within words cell points watches word asks some =
     let here : SomeExceeds cell (Some asks.name) points.frame points.slot
@@ -76,8 +92,10 @@ asked_within words cell points watches word asks some =
     cc
 
 -- words ask for one watch of one handset, so that its number is not both below the number of the watches and not
-pub asked_below : (words : List (String Global)) (cell : RawCell) (points : GridValue) (watches others : List Watch) (word other : List ℕ)
-    → AsksWatch words cell points watches word → number_of word < length watches → AsksWatch words cell points others other → length others ≤ number_of other → ⊥
+pub asked_below : (words : List (String Global)) (cell : RawCell) (points : GridValue) (watches others : List Watch)
+    (word other : List ℕ)
+    → AsksWatch words cell points watches word → number_of word < length watches → AsksWatch words cell points others other
+    → length others ≤ number_of other → ⊥
 asked_below words cell points watches others word other a below b beyond =
     let names = sym a.named ∙ b.named in
     let name : a.name ≡ b.name = cc in
@@ -87,7 +105,10 @@ asked_below words cell points watches others word other a below b beyond =
     let same : watches ≡ others = cc in
     let asked = sym a.asked ∙ b.asked in
     let one : word ≡ other = cc in
-    let here : number_of other < length others = subst (λ (ws : List Watch). number_of other < length ws) same (subst (λ (w : List ℕ). number_of w < length watches) one below) in
+    let here : number_of other
+    < length others =
+    subst (λ (ws : List Watch). number_of other < length ws) same
+    (subst (λ (w : List ℕ). number_of w < length watches) one below) in
     absurd (omega (arith, here, beyond))
 
 -- and are of one command

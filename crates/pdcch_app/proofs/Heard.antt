@@ -19,9 +19,7 @@ use Rattle.grid_file.proofs.FoundGrids.{reads_written}
 use Rattle.grid_file.proofs.TextSizes.{text_fits}
 use Rattle.table_files.specs.declared.tables.Tables.{Tables}
 use Rattle.table_files.proofs.ReadTables.{read_is_table}
-use Rattle.coreset_map.proofs.LegalSets.{legal-blocks}
-use Rattle.coreset_map.proofs.LegalResources.{between}
-use Rattle.monitor_budget.proofs.LegalSearchSets.{legal-mu}
+use Rattle.rrc_settings.proofs.LegalCell.{legal_cell}
 use Rattle.monitor_plan.specs.Watch.{watch_at}
 use Rattle.monitor_plan.specs.Planned.{planned}
 use Rattle.dci_codec.specs.Hearing.{heard_of}
@@ -60,15 +58,18 @@ all_listen : (cell : RawCell) (frame slot : ℕ) (desk : DeskValue) (handsets : 
 all_listen cell frame slot desk [] known within = refl
 all_listen cell frame slot desk (first ∷ others) known within =
     let here : first < length cell.handsets = All-head (λ handset. handset < length cell.handsets) first others within in
-    let later = all_listen cell frame slot desk others known (All-tail (λ handset. handset < length cell.handsets) first others within) in
+    let later = all_listen cell frame slot desk others known
+    (All-tail (λ handset. handset < length cell.handsets) first others within) in
     ap (λ (rest : Result (List Listener) Refusal). listener_before cell first (planned cell first frame slot) rest) later
-    ∙ ap (λ plan. listener_before cell first plan (Ok (map (listening desk.ledger.members) others))) (known.each first here).planned_is
+    ∙ ap (λ plan. listener_before cell first plan (Ok (map (listening desk.ledger.members) others)))
+    (known.each first here).planned_is
 
 -- the reported handsets are those of the cell, or the named one
 same_handsets : (xs ys : List ℕ) → ◌≡◌ {A = Result (List ℕ) Refusal} (Ok xs) (Ok ys) → xs ≡ ys
 same_handsets xs ys e = cc
 
-only_within : (cell : RawCell) (word : List ℕ) (found : Option ℕ) (handsets : List ℕ) → handset_named cell word ≡ found → only_handset word found ≡ Ok handsets
+only_within : (cell : RawCell) (word : List ℕ) (found : Option ℕ) (handsets : List ℕ) → handset_named cell word ≡ found
+    → only_handset word found ≡ Ok handsets
     → AreHandsets cell handsets
 only_within cell word (Some handset) handsets e h =
     let there = position-Some (λ (x : Handset). bytes_eq x.name word) cell.handsets handset no_handset e in
@@ -90,8 +91,10 @@ reported_within cell None handsets h =
     omega (arith, m, get_or-range_with_len 0 n i d m))
 
 -- the handset of a reported grant is one of them
-reported_has : (cell : RawCell) (named : Option (List ℕ)) (handsets : List ℕ) (grant : Grant) (handset : ℕ) → reported cell named ≡ Ok handsets
-    → handset_named cell grant.handset ≡ Some handset → handset < length cell.handsets → IsReported named grant → Contains handsets handset
+reported_has : (cell : RawCell) (named : Option (List ℕ)) (handsets : List ℕ) (grant : Grant) (handset : ℕ)
+    → reported cell named ≡ Ok handsets
+    → handset_named cell grant.handset ≡ Some handset → handset < length cell.handsets → IsReported named grant
+    → Contains handsets handset
 reported_has cell named handsets grant handset h e l (inl none) =
     let n = length cell.handsets in
     let all = same_handsets (range_with_len 0 n) handsets (sym (ap (reported cell) none) ∙ h) in
@@ -111,7 +114,8 @@ listener_among members handsets handset (i, l, e) = (
 )
 
 -- an accepted grant of a reported handset stands in the report
-stands : (cell : RawCell) (tables : Tables) (members : List Member) (grid : GridValue) (named : Option (List ℕ)) (handsets : List ℕ) (grant : Grant) (placed : Placed)
+stands : (cell : RawCell) (tables : Tables) (members : List Member) (grid : GridValue) (named : Option (List ℕ))
+    (handsets : List ℕ) (grant : Grant) (placed : Placed)
     → reported cell named ≡ Ok handsets → IsHeardBy cell tables members grid grant placed → IsReported named grant
     → StandsInReport cell tables grid (map (listening members) handsets) grant placed
 stands cell tables members grid named handsets grant placed r h own =
@@ -122,26 +126,31 @@ stands cell tables members grid named handsets grant placed r h own =
       among = listener_among members handsets h.handset (reported_has cell named handsets grant h.handset r h.named h.within own);
       name = h.name;
       entry =
-          report_has tables grid watches placed.watch (heard_of watch placed.watch (spelling_by watch grant.format grant.given)) h.watch h.heard.1;
+          report_has tables grid watches placed.watch
+          (heard_of watch placed.watch (spelling_by watch grant.format grant.given)) h.watch h.heard.1;
     }
 
 -- the grid of a new desk of a legal cell is a grid
-blank_legal : (cell : RawCell) (frame slot : ℕ) (desk : DeskValue) → IsLegal cell → IsOpened cell frame slot desk → frame ≤ 1023 → slot < 10 * 2 ^ cell.mu
+blank_legal : (cell : RawCell) (frame slot : ℕ) (desk : DeskValue) → IsLegal cell → IsOpened cell frame slot desk
+    → frame ≤ 1023 → slot < 10 * 2 ^ cell.mu
     → IsGrid desk.grid
 blank_legal cell frame slot desk legal known f s =
-    let (low, most) = between 6 275 cell.blocks (legal-blocks cell legal) in
-    subst IsGrid (sym known.blank) (blank_is cell.mu frame slot cell.blocks (legal-mu cell legal) f s low most)
+    let facts = legal_cell cell legal in
+    subst IsGrid (sym known.blank)
+    (blank_is cell.mu frame slot cell.blocks facts.mu_most f s facts.blocks_least facts.blocks_most)
 
 -- the output of `write` is the text of the grid that the grants leave, which `search` reads
 pub hears_what_is_written : HearsWhatIsWritten
-hears_what_is_written to_write to_search settings reliability input_order grants tables desk handsets w s hs hr hi hg none r i j o n =
+hears_what_is_written to_write to_search settings reliability input_order grants tables desk handsets w s hs hr hi hg none r
+    i j o n =
     let cell = raw_in settings in
     let list = grants_in grants in
     let grid = (desk_after tables desk list.grants).grid in
     let legal = legal_read settings none in
     let known = opens_a_desk cell list.frame list.slot (length list.grants) desk legal o in
     let here = slot_read cell.mu grants j in
-    let like = all_written tables desk list.grants (blank_legal cell list.frame list.slot desk legal known here.frame_most here.slot_below) in
+    let like = all_written tables desk list.grants
+    (blank_legal cell list.frame list.slot desk legal known here.frame_most here.slot_below) in
     let frame : grid.frame ≡ list.frame = like.frame ∙ ap (λ (g : GridValue). g.frame) known.blank in
     let slot : grid.slot ≡ list.slot = like.slot ∙ ap (λ (g : GridValue). g.slot) known.blank in
     let listeners = map (listening desk.ledger.members) handsets in
@@ -149,16 +158,21 @@ hears_what_is_written to_write to_search settings reliability input_order grants
     ap (λ (k : ℕ). listeners_of cell k grid.slot handsets) frame ∙ ap (λ (k : ℕ). listeners_of cell list.frame k handsets) slot
     ∙ all_listen cell list.frame list.slot desk handsets known (reported_within cell (handset to_search) handsets n) in
     let few = text_fits grid like.grid in
-    let printed = ap (λ (x : Outcome). x.out) (writes_every_list to_write settings reliability input_order grants tables desk w hs hr hi hg none r i j o) in
+    let printed = ap (λ (x : Outcome). x.out)
+    (writes_every_list to_write settings reliability input_order grants tables desk w hs hr hi hg none r i j o) in
     record {
       listeners = listeners;
       are = listen;
       is =
-          ap (λ (text : List ℕ). outcome to_search (given_of settings ∷ given_of reliability ∷ given_of input_order ∷ given_of text ∷ [])) printed
-          ∙ searches_every_grid to_search settings reliability input_order (grid_text grid) tables grid handsets listeners s hs hr hi (omega (arith, few))
-          none r i (reads_written grid like.grid) (like.mu ∙ ap (λ (g : GridValue). g.mu) known.blank) (like.blocks ∙ ap (λ (g : GridValue). g.blocks) known.blank) n listen;
+          ap (λ (text : List ℕ). outcome to_search
+          (given_of settings ∷ given_of reliability ∷ given_of input_order ∷ given_of text ∷ [])) printed
+          ∙ searches_every_grid to_search settings reliability input_order (grid_text grid) tables grid handsets listeners s
+          hs hr hi (omega (arith, few))
+          none r i (reads_written grid like.grid) (like.mu ∙ ap (λ (g : GridValue). g.mu) known.blank)
+          (like.blocks ∙ ap (λ (g : GridValue). g.blocks) known.blank) n listen;
       each = λ k grant placed e f own.
           stands cell tables desk.ledger.members grid (handset to_search) handsets grant placed n
           (heard_by cell list.frame list.slot tables desk list.grants k grant placed
-          (read_is_table 1024 reliability tables.reliability r, read_is_table 164 input_order tables.input_order i) known e f) own;
+          (read_is_table 1024 reliability tables.reliability r, read_is_table 164 input_order tables.input_order i) known e
+          f) own;
     }

@@ -1,5 +1,6 @@
 -- Handsets that are reported one after the other.
-use Rattle.std.proofs.Common.{◌≡◌, ℕ, ◌+◌, ◌-◌, ◌<◌, ◌≤◌, true, Option, Some, None, List, [], ◌∷◌, ◌++◌, Result, Ok, Err, length, take, drop, get_or, refl, ap, sym, subst, ◌∙◌, arith}
+use Rattle.std.proofs.Common.{◌≡◌, ℕ, ◌+◌, ◌-◌, ◌<◌, ◌≤◌, true, Option, Some, None, List, [], ◌∷◌, ◌++◌, Result, Ok}
+use Rattle.std.proofs.Common.{Err, length, take, drop, get_or, refl, ap, sym, subst, ◌∙◌, arith}
 use Rattle.std.specs.List.{range_with_len, flat_map}
 use Rattle.std.proofs.lemmas.List.{drop_more, take_more, take_all, get_or_default, take-append-drop, append-nil, append_assoc}
 use Rattle.std.proofs.lemmas.List.FromFn.{length-range_with_len, get_or-range_with_len}
@@ -23,7 +24,9 @@ use Rattle.report_text.specs.Report.{report_text}
 use Rattle.rrc_settings.specs.HandsetsOfCell.{handset_at, no_handset}
 use Rattle.pdcch_app.specs.Lines.{no_such_handset_line, slot_line}
 use Rattle.pdcch_app.specs.Reporting.{handset_found, unknown_handset, watches_found}
-use Rattle.pdcch_app.specs.Reporting.{Listens, handset_named, only_handset, heard_of_all, searched, Listener, listener_before, listeners_of, listener_text, reported_text, over_limits, heard_by, Appended, IsOver}
+use Rattle.pdcch_app.specs.Reporting.{Listens, handset_named, only_handset, heard_of_all, searched, Listener}
+use Rattle.pdcch_app.specs.Reporting.{listener_before, listeners_of, listener_text, reported_text, over_limits}
+use Rattle.pdcch_app.specs.Reporting.{heard_by, Appended, IsOver}
 
 -- some handsets were reported in a text: each has a plan
 pub record AreReported (cell : RawCell) (tables : Tables) (grid : GridValue) (handsets : List ℕ) (text : List ℕ) : Type 0 where
@@ -33,7 +36,8 @@ pub record AreReported (cell : RawCell) (tables : Tables) (grid : GridValue) (ha
 
 pub none_reported : (cell : RawCell) (tables : Tables) (grid : GridValue) (text : List ℕ) → text ≡ head_text grid.frame grid.slot
     → AreReported cell tables grid [] text
-none_reported cell tables grid text e = record { listeners = []; are = refl; text_is = e ∙ sym (append-nil (head_text grid.frame grid.slot)) }
+none_reported cell tables grid text e =
+    record { listeners = []; are = refl; text_is = e ∙ sym (append-nil (head_text grid.frame grid.slot)) }
 
 abbrev Found : Type 0
 Found = Result (List Listener) Refusal
@@ -42,8 +46,10 @@ abbrev one : ℕ → List Watch → Listener
 one handset watches = record { handset = handset; watches = watches }
 
 -- handsets that all have plans, and one more
-before_more : (cell : RawCell) (first : ℕ) (plan : Result (List Watch) CommonOver) (rest more : Found) (listeners : List Listener) (last : Listener)
-    → listener_before cell first plan rest ≡ Ok listeners → ((others : List Listener) → rest ≡ Ok others → more ≡ Ok (others ++ last ∷ []))
+before_more : (cell : RawCell) (first : ℕ) (plan : Result (List Watch) CommonOver) (rest more : Found)
+    (listeners : List Listener) (last : Listener)
+    → listener_before cell first plan rest ≡ Ok listeners
+    → ((others : List Listener) → rest ≡ Ok others → more ≡ Ok (others ++ last ∷ []))
     → listener_before cell first plan more ≡ Ok (listeners ++ last ∷ [])
 before_more cell first (Ok watches) (Ok others) more listeners last e next =
     let same : one first watches ∷ others ≡ listeners = cc in
@@ -52,44 +58,55 @@ before_more cell first (Ok watches) (Err refusal) more listeners last e next = a
 before_more cell first (Err over) (Ok others) more listeners last e next = absurd (let f : ⊥ = cc in f)
 before_more cell first (Err over) (Err refusal) more listeners last e next = absurd (let f : ⊥ = cc in f)
 
-listeners_more : (cell : RawCell) (frame slot : ℕ) (handsets : List ℕ) (listeners : List Listener) (handset : ℕ) (watches : List Watch)
+listeners_more : (cell : RawCell) (frame slot : ℕ) (handsets : List ℕ) (listeners : List Listener) (handset : ℕ)
+    (watches : List Watch)
     → listeners_of cell frame slot handsets ≡ Ok listeners → planned cell handset frame slot ≡ Ok watches
     → listeners_of cell frame slot (handsets ++ handset ∷ []) ≡ Ok (listeners ++ one handset watches ∷ [])
 listeners_more cell frame slot [] listeners handset watches e f =
     let none : [] ≡ listeners = cc in
     ap (λ p. listener_before cell handset p (Ok [])) f ∙ ap (λ (xs : List Listener). Ok (xs ++ one handset watches ∷ [])) none
 listeners_more cell frame slot (first ∷ others) listeners handset watches e f =
-    before_more cell first (planned cell first frame slot) (listeners_of cell frame slot others) (listeners_of cell frame slot (others ++ handset ∷ [])) listeners (one handset watches) e
+    before_more cell first (planned cell first frame slot) (listeners_of cell frame slot others)
+    (listeners_of cell frame slot (others ++ handset ∷ [])) listeners (one handset watches) e
     (λ ls h. listeners_more cell frame slot others ls handset watches h f)
 
 -- handsets that all have plans, and then one that has none
-before_refused : (cell : RawCell) (first : ℕ) (plan : Result (List Watch) CommonOver) (rest more : Found) (listeners : List Listener) (refusal : Refusal)
+before_refused : (cell : RawCell) (first : ℕ) (plan : Result (List Watch) CommonOver) (rest more : Found)
+    (listeners : List Listener) (refusal : Refusal)
     → listener_before cell first plan rest ≡ Ok listeners → ((others : List Listener) → rest ≡ Ok others → more ≡ Err refusal)
     → listener_before cell first plan more ≡ Err refusal
-before_refused cell first (Ok watches) (Ok others) more listeners refusal e next = ap (listener_before cell first (Ok watches)) (next others refl)
+before_refused cell first (Ok watches) (Ok others) more listeners refusal e next =
+    ap (listener_before cell first (Ok watches)) (next others refl)
 before_refused cell first (Ok watches) (Err other) more listeners refusal e next = absurd (let f : ⊥ = cc in f)
 before_refused cell first (Err over) (Ok others) more listeners refusal e next = absurd (let f : ⊥ = cc in f)
 before_refused cell first (Err over) (Err other) more listeners refusal e next = absurd (let f : ⊥ = cc in f)
 
-listeners_refused : (cell : RawCell) (frame slot : ℕ) (handsets : List ℕ) (listeners : List Listener) (handset : ℕ) (over : CommonOver) (later : List ℕ)
+listeners_refused : (cell : RawCell) (frame slot : ℕ) (handsets : List ℕ) (listeners : List Listener) (handset : ℕ)
+    (over : CommonOver) (later : List ℕ)
     → listeners_of cell frame slot handsets ≡ Ok listeners → planned cell handset frame slot ≡ Err over
     → listeners_of cell frame slot (handsets ++ handset ∷ later) ≡ Err (over_limits cell handset over)
-listeners_refused cell frame slot [] listeners handset over later e f = ap (λ p. listener_before cell handset p (listeners_of cell frame slot later)) f
+listeners_refused cell frame slot [] listeners handset over later e f =
+    ap (λ p. listener_before cell handset p (listeners_of cell frame slot later)) f
 listeners_refused cell frame slot (first ∷ others) listeners handset over later e f =
-    before_refused cell first (planned cell first frame slot) (listeners_of cell frame slot others) (listeners_of cell frame slot (others ++ handset ∷ later)) listeners
+    before_refused cell first (planned cell first frame slot) (listeners_of cell frame slot others)
+    (listeners_of cell frame slot (others ++ handset ∷ later)) listeners
     (over_limits cell handset over) e (λ ls h. listeners_refused cell frame slot others ls handset over later h f)
 
 -- the text with one handset more
 text_more : (cell : RawCell) (tables : Tables) (grid : GridValue) (listeners : List Listener) (last : Listener)
-    → reported_text cell tables grid listeners ++ listener_text cell tables grid last ≡ reported_text cell tables grid (listeners ++ last ∷ [])
+    → reported_text cell tables grid listeners
+    ++ listener_text cell tables grid last ≡ reported_text cell tables grid (listeners ++ last ∷ [])
 text_more cell tables grid listeners last =
     let head = head_text grid.frame grid.slot in
     let each = listener_text cell tables grid in
     append_assoc head (flat_map each listeners) (each last)
-    ∙ ap (λ xs. head ++ xs) (ap (λ xs. flat_map each listeners ++ xs) (sym (append-nil (each last))) ∙ sym (flat_map-append each listeners (last ∷ [])))
+    ∙ ap (λ xs. head ++ xs) (ap (λ xs. flat_map each listeners ++ xs) (sym (append-nil (each last)))
+    ∙ sym (flat_map-append each listeners (last ∷ [])))
 
-pub reported_more : (cell : RawCell) (tables : Tables) (grid : GridValue) (handsets : List ℕ) (n : ℕ) (handset : ℕ) (old new : List ℕ) → n < length handsets
-    → get_or handsets n 0 ≡ handset → AreReported cell tables grid (take n handsets) old → Appended cell tables grid handset old new
+pub reported_more : (cell : RawCell) (tables : Tables) (grid : GridValue) (handsets : List ℕ) (n : ℕ) (handset : ℕ)
+    (old new : List ℕ) → n < length handsets
+    → get_or handsets n 0 ≡ handset → AreReported cell tables grid (take n handsets) old
+    → Appended cell tables grid handset old new
     → AreReported cell tables grid (take (n + 1) handsets) new
 reported_more cell tables grid handsets n handset old new l at h a =
     let P : List ℕ → Type 0 = λ hs. AreReported cell tables grid hs new in
@@ -97,24 +114,29 @@ reported_more cell tables grid handsets n handset old new l at h a =
     subst P (sym (take_more handsets n 0 l ∙ ap (λ k. take n handsets ++ k ∷ []) at)) (record {
       listeners = h.listeners ++ last ∷ [];
       are = listeners_more cell grid.frame grid.slot (take n handsets) h.listeners handset a.watches h.are a.planned_is;
-      text_is = a.text ∙ ap (λ xs. xs ++ listener_text cell tables grid last) h.text_is ∙ text_more cell tables grid h.listeners last;
+      text_is =
+          a.text ∙ ap (λ xs. xs ++ listener_text cell tables grid last) h.text_is ∙ text_more cell tables grid h.listeners last;
     })
 
 -- the handsets from one place up to another
-pub at_range : (first end handset : ℕ) → first ≤ handset → handset < end → get_or (range_with_len first (end - first)) (handset - first) 0 ≡ handset
+pub at_range : (first end handset : ℕ) → first ≤ handset → handset < end
+    → get_or (range_with_len first (end - first)) (handset - first) 0 ≡ handset
 at_range first end handset l h =
     get_or-range_with_len first (end - first) (handset - first) 0 (omega (arith, l, h)) ∙ omega (arith, l)
 
-pub within_range : (first end handset : ℕ) → first ≤ handset → handset < end → handset - first < length (range_with_len first (end - first))
+pub within_range : (first end handset : ℕ) → first ≤ handset → handset < end
+    → handset - first < length (range_with_len first (end - first))
 within_range first end handset l h = omega (arith, l, h, length-range_with_len first (end - first))
 
 pub past_range : (first end handset : ℕ) → end ≤ handset → length (range_with_len first (end - first)) ≤ handset - first
 past_range first end handset l = omega (arith, l, length-range_with_len first (end - first))
 
 -- all handsets were reported
-pub all_reported : (cell : RawCell) (tables : Tables) (grid : GridValue) (handsets : List ℕ) (n : ℕ) (text : List ℕ) → length handsets ≤ n
+pub all_reported : (cell : RawCell) (tables : Tables) (grid : GridValue) (handsets : List ℕ) (n : ℕ) (text : List ℕ)
+    → length handsets ≤ n
     → AreReported cell tables grid (take n handsets) text
-    → heard_by cell tables grid (listeners_of cell grid.frame grid.slot handsets) ≡ Ok (record { whole = true; out = text; err = [] })
+    → heard_by cell tables grid (listeners_of cell grid.frame grid.slot handsets)
+    ≡ Ok (record { whole = true; out = text; err = [] })
 all_reported cell tables grid handsets n text l h =
     ap (λ (hs : List ℕ). heard_by cell tables grid (listeners_of cell grid.frame grid.slot hs)) (sym (take_all n handsets l))
     ∙ ap (heard_by cell tables grid) h.are ∙ ap (λ (t : List ℕ). printed t) (sym h.text_is)
@@ -123,19 +145,23 @@ all_reported cell tables grid handsets n text l h =
     printed t = Ok (record { whole = true; out = t; err = [] })
 
 -- a handset has no plan
-pub not_reported : (cell : RawCell) (tables : Tables) (grid : GridValue) (handsets : List ℕ) (n handset : ℕ) (text : List ℕ) (outcome : Outcome) → n < length handsets
+pub not_reported : (cell : RawCell) (tables : Tables) (grid : GridValue) (handsets : List ℕ) (n handset : ℕ) (text : List ℕ)
+    (outcome : Outcome) → n < length handsets
     → get_or handsets n 0 ≡ handset → AreReported cell tables grid (take n handsets) text → IsOver cell grid handset outcome
     → outcome ≡ ended (heard_by cell tables grid (listeners_of cell grid.frame grid.slot handsets))
 not_reported cell tables grid handsets n handset text outcome l at h o =
     let split : handsets ≡ take n handsets ++ handset ∷ drop (n + 1) handsets =
-    sym (take-append-drop n handsets) ∙ ap (λ xs. take n handsets ++ xs) (drop_more handsets n 0 l ∙ ap (λ k. k ∷ drop (n + 1) handsets) at) in
+    sym (take-append-drop n handsets)
+    ∙ ap (λ xs. take n handsets ++ xs) (drop_more handsets n 0 l ∙ ap (λ k. k ∷ drop (n + 1) handsets) at) in
     o.says
     ∙ sym (ap (λ (hs : List ℕ). ended (heard_by cell tables grid (listeners_of cell grid.frame grid.slot hs))) split
     ∙ ap (λ found. ended (heard_by cell tables grid found))
-    (listeners_refused cell grid.frame grid.slot (take n handsets) h.listeners handset o.over (drop (n + 1) handsets) h.are o.planned_is))
+    (listeners_refused cell grid.frame grid.slot (take n handsets) h.listeners handset o.over (drop (n + 1) handsets) h.are
+    o.planned_is))
 
 -- the name of a handset at its place
-pub name_of : (cell : RawCell) (handsets : List Handset) (handset : ℕ) (d : Handset) → handsets ≡ cell.handsets → handset < length cell.handsets
+pub name_of : (cell : RawCell) (handsets : List Handset) (handset : ℕ) (d : Handset) → handsets ≡ cell.handsets
+    → handset < length cell.handsets
     → (get_or handsets handset d).name ≡ (handset_at cell handset).name
 name_of cell handsets handset d e h =
     ap (λ (hs : List Handset). (get_or hs handset d).name) e
@@ -144,15 +170,19 @@ name_of cell handsets handset d e h =
 -- the slot of a grid
 planned_in : (cell : RawCell) (grid : GridValue) (handset frame slot : ℕ) → frame ≡ grid.frame → slot ≡ grid.slot
     → planned cell handset grid.frame grid.slot ≡ planned cell handset frame slot
-planned_in cell grid handset frame slot f s = sym (ap (λ x. planned cell handset x slot) f ∙ ap (planned cell handset grid.frame) s)
+planned_in cell grid handset frame slot f s =
+    sym (ap (λ x. planned cell handset x slot) f ∙ ap (planned cell handset grid.frame) s)
 
 -- the plan of a handset in the slot of a grid is read, or its slot is refused
-pub plan_read : (cell : RawCell) (grid : GridValue) (handset frame slot : ℕ) (watches : List Watch) → frame ≡ grid.frame → slot ≡ grid.slot
-    → planned cell handset frame slot ≡ Ok watches → IsRead {A = List Watch} (Ok watches) (checked (watches_found cell handset (planned cell handset grid.frame grid.slot)))
+pub plan_read : (cell : RawCell) (grid : GridValue) (handset frame slot : ℕ) (watches : List Watch) → frame ≡ grid.frame
+    → slot ≡ grid.slot
+    → planned cell handset frame slot ≡ Ok watches
+    → IsRead {A = List Watch} (Ok watches) (checked (watches_found cell handset (planned cell handset grid.frame grid.slot)))
 plan_read cell grid handset frame slot watches f s e =
     ap (λ plan. checked (watches_found cell handset plan)) (planned_in cell grid handset frame slot f s ∙ e)
 
-pub plan_refused : (cell : RawCell) (grid : GridValue) (handset frame slot : ℕ) (name : List ℕ) (over : CommonOver) (stop : Stop) → frame ≡ grid.frame → slot ≡ grid.slot
+pub plan_refused : (cell : RawCell) (grid : GridValue) (handset frame slot : ℕ) (name : List ℕ) (over : CommonOver)
+    (stop : Stop) → frame ≡ grid.frame → slot ≡ grid.slot
     → name ≡ (handset_at cell handset).name → planned cell handset frame slot ≡ Err over
     → IsStop (refused ends.SlotRefused (slot_line name over.candidates over.cces)) stop
     → IsRead {A = List Watch} (Err stop) (checked (watches_found cell handset (planned cell handset grid.frame grid.slot)))
@@ -162,7 +192,8 @@ plan_refused cell grid handset frame slot name over (Ended o) f s n e h =
 plan_refused cell grid handset frame slot name over OutOfMemory f s n e h = tt
 
 -- a plan that was read is the one of the slot
-pub plan_is : (cell : RawCell) (handset : ℕ) (plan : Result (List Watch) CommonOver) (watches : List Watch) → checked (watches_found cell handset plan) ≡ Ok watches
+pub plan_is : (cell : RawCell) (handset : ℕ) (plan : Result (List Watch) CommonOver) (watches : List Watch)
+    → checked (watches_found cell handset plan) ≡ Ok watches
     → plan ≡ Ok watches
 plan_is cell handset (Ok others) watches h = let same : others ≡ watches = cc in ap (λ (ws : List Watch). Ok ws) same
 plan_is cell handset (Err over) watches h = absurd (let f : ⊥ = cc in f)
@@ -173,11 +204,13 @@ pub record SaysOver (cell : RawCell) (handset : ℕ) (plan : Result (List Watch)
   pub plan_is : plan ≡ Err over
   pub says : outcome ≡ ended (Err (over_limits cell handset over))
 
-pub plan_over : (cell : RawCell) (handset : ℕ) (plan : Result (List Watch) CommonOver) (outcome : Outcome) → checked (watches_found cell handset plan) ≡ Err outcome
+pub plan_over : (cell : RawCell) (handset : ℕ) (plan : Result (List Watch) CommonOver) (outcome : Outcome)
+    → checked (watches_found cell handset plan) ≡ Err outcome
     → SaysOver cell handset plan outcome
 plan_over cell handset (Ok watches) outcome h = absurd (let f : ⊥ = cc in f)
 plan_over cell handset (Err over) outcome h =
-    let same : ended (Err (over_limits cell handset over)) ≡ outcome = cc in record { over = over; plan_is = refl; says = sym same }
+    let same : ended (Err (over_limits cell handset over)) ≡ outcome =
+    cc in record { over = over; plan_is = refl; says = sym same }
 
 -- a handset that has no plan is refused
 pub listens_over : (cell : RawCell) (tables : Tables) (grid : GridValue) (handset : ℕ) (text : List ℕ) (stop : Stop)
@@ -189,9 +222,11 @@ listens_over cell tables grid handset text (Ended o) h =
 listens_over cell tables grid handset text OutOfMemory h = tt
 
 -- the report of a handset with its plan
-pub appended_from : (cell : RawCell) (tables : Tables) (grid : GridValue) (handset : ℕ) (watches plan : List Watch) (found : List Heard) (name old new : List ℕ)
+pub appended_from : (cell : RawCell) (tables : Tables) (grid : GridValue) (handset : ℕ) (watches plan : List Watch)
+    (found : List Heard) (name old new : List ℕ)
     → name ≡ (handset_at cell handset).name → planned cell handset grid.frame grid.slot ≡ Ok watches
-    → plan ≡ watches → found ≡ report_of tables grid watches → new ≡ old ++ report_text name plan found → Appended cell tables grid handset old new
+    → plan ≡ watches → found ≡ report_of tables grid watches → new ≡ old ++ report_text name plan found
+    → Appended cell tables grid handset old new
 unfolding listener_text
 appended_from cell tables grid handset watches plan found name old new n e p r t = record {
   watches = watches;
@@ -202,15 +237,20 @@ appended_from cell tables grid handset watches plan found name old new n e p r t
 }
 
 -- a stop among the handsets
-pub stopped_ends : (cell : RawCell) (tables : Tables) (grid : GridValue) (handsets : List ℕ) (n handset : ℕ) (text new : List ℕ) (stop : Stop) → n < length handsets
-    → get_or handsets n 0 ≡ handset → AreReported cell tables grid (take n handsets) text → Listens cell tables grid handset text new (Err stop)
+pub stopped_ends : (cell : RawCell) (tables : Tables) (grid : GridValue) (handsets : List ℕ) (n handset : ℕ)
+    (text new : List ℕ) (stop : Stop) → n < length handsets
+    → get_or handsets n 0 ≡ handset → AreReported cell tables grid (take n handsets) text
+    → Listens cell tables grid handset text new (Err stop)
     → Ends (Err stop) (ended (heard_by cell tables grid (listeners_of cell grid.frame grid.slot handsets)))
-stopped_ends cell tables grid handsets n handset text new (Ended o) l at h k = sym (not_reported cell tables grid handsets n handset text o l at h k)
+stopped_ends cell tables grid handsets n handset text new (Ended o) l at h k =
+    sym (not_reported cell tables grid handsets n handset text o l at h k)
 stopped_ends cell tables grid handsets n handset text new OutOfMemory l at h k = tt
 
 -- the end, with all handsets reported
-pub all_ended : (cell : RawCell) (tables : Tables) (grid : GridValue) (handsets : List ℕ) (n : ℕ) (text err : List ℕ) (outcome : Outcome) → length handsets ≤ n
-    → AreReported cell tables grid (take n handsets) text → outcome ≡ record { status = ends.Done; out = text; err = err } → err ≡ []
+pub all_ended : (cell : RawCell) (tables : Tables) (grid : GridValue) (handsets : List ℕ) (n : ℕ) (text err : List ℕ)
+    (outcome : Outcome) → length handsets ≤ n
+    → AreReported cell tables grid (take n handsets) text → outcome ≡ record { status = ends.Done; out = text; err = err }
+    → err ≡ []
     → ended (heard_by cell tables grid (listeners_of cell grid.frame grid.slot handsets)) ≡ outcome
 all_ended cell tables grid handsets n text err outcome l h e none =
     ap ended (all_reported cell tables grid handsets n text l h)
@@ -220,17 +260,20 @@ all_ended cell tables grid handsets n text err outcome l h e none =
     done x = record { status = ends.Done; out = text; err = x }
 
 -- all handsets of a cell
-pub ends_all : (cell : RawCell) (tables : Tables) (grid : GridValue) (n : ℕ) (result : Result Outcome Stop) → n ≡ length cell.handsets
+pub ends_all : (cell : RawCell) (tables : Tables) (grid : GridValue) (n : ℕ) (result : Result Outcome Stop)
+    → n ≡ length cell.handsets
     → Ends result (ended (heard_by cell tables grid (listeners_of cell grid.frame grid.slot (range_with_len 0 (n - 0)))))
     → Ends result (ended (searched cell tables grid None))
 unfolding searched
 ends_all cell tables grid n result e h =
-    let P : ℕ → Type 0 = λ k. Ends result (ended (heard_by cell tables grid (listeners_of cell grid.frame grid.slot (range_with_len 0 k)))) in
+    let P : ℕ → Type 0 = λ k. Ends result
+    (ended (heard_by cell tables grid (listeners_of cell grid.frame grid.slot (range_with_len 0 k)))) in
     let count : n - 0 ≡ length cell.handsets = omega (arith, e) in
     subst P count h
 
 -- a handset that was found by its name
-pub handset_is : (name : List ℕ) (found : Option ℕ) (handset : ℕ) → checked (handset_found name found) ≡ Ok handset → found ≡ Some handset
+pub handset_is : (name : List ℕ) (found : Option ℕ) (handset : ℕ) → checked (handset_found name found) ≡ Ok handset
+    → found ≡ Some handset
 handset_is name (Some other) handset h = let same : other ≡ handset = cc in ap (λ (n : ℕ). Some n) same
 handset_is name None handset h = absurd (let f : ⊥ = cc in f)
 
@@ -240,20 +283,24 @@ pub handset_unknown : (name : List ℕ) (found : Option ℕ) (outcome : Outcome)
 handset_unknown name (Some other) outcome h = absurd (let f : ⊥ = cc in f)
 handset_unknown name None outcome h = let same : ended (Err (unknown_handset name)) ≡ outcome = cc in (refl, sym same)
 
-pub handset_refused : (name : List ℕ) (stop : Stop) (found : Option ℕ) → None ≡ found → IsStop (refused ends.NoSuch (no_such_handset_line name)) stop
+pub handset_refused : (name : List ℕ) (stop : Stop) (found : Option ℕ) → None ≡ found
+    → IsStop (refused ends.NoSuch (no_such_handset_line name)) stop
     → IsRead {A = ℕ} (Err stop) (checked (handset_found name found))
 handset_refused name (Ended o) found e h =
     sym (ap (λ (x : Option ℕ). checked (handset_found name x)) e) ∙ ap (λ (x : Outcome). Err x) (sym h)
 handset_refused name OutOfMemory found e h = tt
 
 -- the named one
-pub ends_named : (cell : RawCell) (tables : Tables) (grid : GridValue) (name : List ℕ) (handset : ℕ) (result : Result Outcome Stop)
+pub ends_named : (cell : RawCell) (tables : Tables) (grid : GridValue) (name : List ℕ) (handset : ℕ)
+    (result : Result Outcome Stop)
     → IsRead (Ok handset) (checked (handset_found name (handset_named cell name)))
-    → Ends result (ended (heard_by cell tables grid (listeners_of cell grid.frame grid.slot (range_with_len handset (handset + 1 - handset)))))
+    → Ends result (ended (heard_by cell tables grid
+    (listeners_of cell grid.frame grid.slot (range_with_len handset (handset + 1 - handset)))))
     → Ends result (ended (searched cell tables grid (Some name)))
 unfolding searched
 ends_named cell tables grid name handset result r h =
-    let P : ℕ → Type 0 = λ k. Ends result (ended (heard_by cell tables grid (listeners_of cell grid.frame grid.slot (range_with_len handset k)))) in
+    let P : ℕ → Type 0 = λ k. Ends result
+    (ended (heard_by cell tables grid (listeners_of cell grid.frame grid.slot (range_with_len handset k)))) in
     let Q : Option ℕ → Type 0 = λ o. Ends result (ended (heard_of_all cell tables grid (only_handset name o))) in
     let count : handset + 1 - handset ≡ 1 = omega arith in
     let one : Q (Some handset) = subst P count h in
@@ -261,7 +308,8 @@ ends_named cell tables grid name handset result r h =
 
 -- no handset has the name
 pub ends_unnamed : (cell : RawCell) (tables : Tables) (grid : GridValue) (name : List ℕ) (stop : Stop)
-    → IsRead {A = ℕ} (Err stop) (checked (handset_found name (handset_named cell name))) → Ends (Err stop) (ended (searched cell tables grid (Some name)))
+    → IsRead {A = ℕ} (Err stop) (checked (handset_found name (handset_named cell name)))
+    → Ends (Err stop) (ended (searched cell tables grid (Some name)))
 unfolding searched
 ends_unnamed cell tables grid name (Ended o) h =
     let is = handset_unknown name (handset_named cell name) o h in

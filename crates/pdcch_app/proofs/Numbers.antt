@@ -7,7 +7,8 @@ use Rattle.std.specs.Str.Parse.{ParsesUnsigned}
 use Rattle.std.proofs.lemmas.Bool.Decides.{nat_tests}
 use Rattle.std.proofs.lemmas.Str.Parse.{IsDigitsTest, numerals_by_value, parse_gives, digits_value_short}
 use Rattle.pdcch_app.specs.Arguments.{is_number, number_of}
-use Rattle.pdcch_app.proofs.Spellings.{both}
+use Rattle.std.proofs.lemmas.Bool.{and_parts}
+use Rattle.std.proofs.lemmas.Bool.{and_from}
 
 -- digits alone
 abbrev AreDigits : List ℕ → Type 0
@@ -19,15 +20,11 @@ in_range c h = grind (arith, nat_tests)
 is_digit : (c : ℕ) → IsInRange 48 57 c → is_ascii_digit c ≡ true
 is_digit c h = grind (arith, nat_tests)
 
-and_more : (a b : Bool) → a ≡ true → b ≡ true → (a && b) ≡ true
-and_more true b h k = k
-and_more false b h k = h
-
 digits_test : IsDigitsTest AreDigits
 digits_test = record {
   empty = refl;
-  parts = λ c cs h. let (first, rest) = both (is_ascii_digit c) (list_all is_ascii_digit cs) h in (in_range c first, rest);
-  more = λ c cs first rest. and_more (is_ascii_digit c) (list_all is_ascii_digit cs) (is_digit c first) rest;
+  parts = λ c cs h. let (first, rest) = and_parts (is_ascii_digit c) (list_all is_ascii_digit cs) h in (in_range c first, rest);
+  more = λ c cs first rest. and_from (is_ascii_digit c) (list_all is_ascii_digit cs) (is_digit c first) rest;
 }
 
 -- what a number is
@@ -38,12 +35,13 @@ record IsNumber (text : List ℕ) : Type 0 where
 
 number_is : (text : List ℕ) → is_number text ≡ true → IsNumber text
 number_is text h =
-    let (few, digits) = both (leb 1 (length text) && leb (length text) 9) (list_all is_ascii_digit text) h in
-    let (some, short) = both (leb 1 (length text)) (leb (length text) 9) few in
+    let (few, digits) = and_parts (leb 1 (length text) && leb (length text) 9) (list_all is_ascii_digit text) h in
+    let (some, short) = and_parts (leb 1 (length text)) (leb (length text) 9) few in
     record { some = grind (arith, nat_tests, some); short = grind (arith, nat_tests, short); digits = digits }
 
 -- it is read as its value, which 32 bits hold
-pub number_parses : {E : Type 0} (text : List ℕ) (result : Result ℕ E) → is_number text ≡ true → ParsesUnsigned 32 10 text result → result ≡ Ok (number_of text)
+pub number_parses : {E : Type 0} (text : List ℕ) (result : Result ℕ E) → is_number text ≡ true
+    → ParsesUnsigned 32 10 text result → result ≡ Ok (number_of text)
 number_parses text result h parses =
     let is = number_is text h in
     let own = numerals_by_value AreDigits digits_test in

@@ -7,7 +7,8 @@ use Rattle.run_steps.specs.declared.statuses.Status.TheVariants as ends
 use Rattle.run_steps.specs.Outcome.{Outcome, BadTable, Fetched, Bytes, ended, given_of, reading}
 use Rattle.pdcch_app.specs.declared.words.Command.{Command}
 use Rattle.pdcch_app.specs.declared.words.Command.TheVariants.{Write, Search, Explain, Sweep}
-use Rattle.pdcch_app.specs.Causes.{ReadFirstTable, ReadBothTables, CameTo, First, Second, Third, Fourth, SecondTable, FirstTableIsFaulty, SecondTableIsFaulty, takes_settings}
+use Rattle.pdcch_app.specs.Causes.{ReadFirstTable, ReadBothTables, CameTo, First, Second, Third, Fourth, SecondTable}
+use Rattle.pdcch_app.specs.Causes.{FirstTableIsFaulty, SecondTableIsFaulty, takes_settings}
 use Rattle.pdcch_app.specs.Checks.{reliability_of, input_order_of}
 use Rattle.pdcch_app.specs.Lines.{reliability_line, input_order_line}
 use Rattle.pdcch_app.specs.Outcomes.{both, outcome, served}
@@ -15,15 +16,17 @@ use Rattle.pdcch_app.specs.Promises.{SweepsTheLoad}
 use Rattle.pdcch_app.specs.Sweeping.{swept}
 use Rattle.pdcch_app.specs.Words.{file, legal, slots}
 use Rattle.pdcch_app.proofs.AskedSlots.{asks_slots}
-use Rattle.pdcch_app.proofs.FilesRead.{file_read, file_refused, file_missed, missed_status, reliability_faulty, input_order_faulty}
-use Rattle.pdcch_app.proofs.RunPromises.{went, reliability-read, input_order-read}
+use Rattle.pdcch_app.proofs.FilesRead.{file_read, file_refused, file_missed, missed_status, reliability_faulty}
+use Rattle.pdcch_app.proofs.FilesRead.{input_order_faulty}
+use Rattle.pdcch_app.proofs.RunPromises.{went, reliability_read, input_order-read}
 
 -- the status of an outcome
 abbrev pub status_in : Outcome → Status
 status_in o = o.status
 
 -- the command that takes no settings is `sweep`
-pub sweeps : (words : List (String Global)) (command : Command) → legal words ≡ Some command → takes_settings command ≡ false → legal words ≡ Some Sweep
+pub sweeps : (words : List (String Global)) (command : Command) → legal words ≡ Some command
+    → takes_settings command ≡ false → legal words ≡ Some Sweep
 sweeps words Write h t = absurd (let f : ⊥ = cc in f)
 sweeps words Search h t = absurd (let f : ⊥ = cc in f)
 sweeps words Explain h t = absurd (let f : ⊥ = cc in f)
@@ -36,22 +39,27 @@ at_end words numbers order left = ended (swept (both numbers order) (slots words
 abbrev after_first : List (String Global) → List ℕ → List Fetched → Outcome
 after_first words numbers = reading input_order_of (file Sweep words 1) (at_end words numbers)
 
-outcome_is : (words : List (String Global)) (gave : List Fetched) → legal words ≡ Some Sweep → outcome words gave ≡ reading reliability_of (file Sweep words 0) (after_first words) gave
+outcome_is : (words : List (String Global)) (gave : List Fetched) → legal words ≡ Some Sweep
+    → outcome words gave ≡ reading reliability_of (file Sweep words 0) (after_first words) gave
 outcome_is words gave h = ap (λ c. served c words gave) h
 
 -- the first table is passed on
-first_on : (words : List (String Global)) (gave : List Fetched) (numbers : List ℕ) (rest : List Fetched) → legal words ≡ Some Sweep → ReadFirstTable gave numbers rest
+first_on : (words : List (String Global)) (gave : List Fetched) (numbers : List ℕ) (rest : List Fetched)
+    → legal words ≡ Some Sweep → ReadFirstTable gave numbers rest
     → outcome words gave ≡ after_first words numbers rest
 first_on words gave numbers rest h read =
     outcome_is words gave h
-    ∙ file_read reliability_of (file Sweep words 0) (after_first words) gave read.bytes rest numbers read.first (reliability-read read.bytes numbers read.is)
+    ∙ file_read reliability_of (file Sweep words 0) (after_first words) gave read.bytes rest numbers read.first
+    (reliability_read read.bytes numbers read.is)
 
 -- and so is the second
-pub sweep_on : (words : List (String Global)) (gave : List Fetched) (tables : Tables) → legal words ≡ Some Sweep → ReadBothTables gave tables
+pub sweep_on : (words : List (String Global)) (gave : List Fetched) (tables : Tables) → legal words ≡ Some Sweep
+    → ReadBothTables gave tables
     → outcome words gave ≡ ended (swept tables (slots words))
 sweep_on words gave tables h read =
     first_on words gave tables.reliability (Bytes read.bytes ∷ []) h read.before
-    ∙ file_read input_order_of (file Sweep words 1) (at_end words tables.reliability) (Bytes read.bytes ∷ []) read.bytes [] tables.input_order refl
+    ∙ file_read input_order_of (file Sweep words 1) (at_end words tables.reliability) (Bytes read.bytes ∷ []) read.bytes []
+    tables.input_order refl
     (input_order-read read.bytes tables.input_order read.is)
 
 -- what is printed is that of a job that was done
@@ -60,21 +68,26 @@ unfolding swept
 swept_done tables number = refl
 
 -- a table that is none ends the run
-pub sweep_table_ends : (words : List (String Global)) (gave : List Fetched) → legal words ≡ Some Sweep → FirstTableIsFaulty gave ⊎ SecondTableIsFaulty gave
+pub sweep_table_ends : (words : List (String Global)) (gave : List Fetched) → legal words ≡ Some Sweep
+    → FirstTableIsFaulty gave ⊎ SecondTableIsFaulty gave
     → (outcome words gave).status ≡ ends.TableRefused
 sweep_table_ends words gave h (inl f) =
     ap status_in (outcome_is words gave h)
-    ∙ file_refused reliability_of (file Sweep words 0) (after_first words) gave f.bytes f.rest BadTable (reliability_line f.fault) f.first (reliability_faulty f.bytes f.fault f.found)
+    ∙ file_refused reliability_of (file Sweep words 0) (after_first words) gave f.bytes f.rest BadTable
+    (reliability_line f.fault) f.first (reliability_faulty f.bytes f.fault f.found)
 sweep_table_ends words gave h (inr f) =
     ap status_in (first_on words gave f.numbers (Bytes f.bytes ∷ []) h f.before)
-    ∙ file_refused input_order_of (file Sweep words 1) (at_end words f.numbers) (Bytes f.bytes ∷ []) f.bytes [] BadTable (input_order_line f.fault) refl
+    ∙ file_refused input_order_of (file Sweep words 1) (at_end words f.numbers) (Bytes f.bytes ∷ []) f.bytes [] BadTable
+    (input_order_line f.fault) refl
     (input_order_faulty f.bytes f.fault f.found)
 
 -- and so does a fetch that gave no bytes
-pub sweep_missed : (words : List (String Global)) (gave : List Fetched) (entry : Fetched) (status : Status) (command : Command) → missed_status entry ≡ Some status
+pub sweep_missed : (words : List (String Global)) (gave : List Fetched) (entry : Fetched) (status : Status)
+    (command : Command) → missed_status entry ≡ Some status
     → legal words ≡ Some Sweep → takes_settings command ≡ false → CameTo command gave entry → (outcome words gave).status ≡ status
 sweep_missed words gave entry status command m h t (First rest e) =
-    ap status_in (outcome_is words gave h) ∙ file_missed reliability_of (file Sweep words 0) (after_first words) gave entry rest status m e
+    ap status_in (outcome_is words gave h)
+    ∙ file_missed reliability_of (file Sweep words 0) (after_first words) gave entry rest status m e
 sweep_missed words gave entry status command m h t (Second cell rest s read) = absurd (let never = sym t ∙ s in cc)
 sweep_missed words gave entry status command m h t (Third cell numbers rest s read) = absurd (let never = sym t ∙ s in cc)
 sweep_missed words gave entry status command m h t (Fourth cell tables s read) = absurd (let never = sym t ∙ s in cc)
@@ -90,8 +103,10 @@ sweeps_the_load words reliability input_order tables w hr hi r i =
     record {
       is =
           ap (λ c. served c words gave) w
-          ∙ went reliability_of (file Sweep words 0) (after_first words) reliability _ tables.reliability hr (reliability-read reliability tables.reliability r)
-          ∙ went input_order_of (file Sweep words 1) (at_end words tables.reliability) input_order _ tables.input_order hi (input_order-read input_order tables.input_order i);
+          ∙ went reliability_of (file Sweep words 0) (after_first words) reliability _ tables.reliability hr
+          (reliability_read reliability tables.reliability r)
+          ∙ went input_order_of (file Sweep words 1) (at_end words tables.reliability) input_order _ tables.input_order hi
+          (input_order-read input_order tables.input_order i);
       least = asks.least;
       most = asks.most;
     }

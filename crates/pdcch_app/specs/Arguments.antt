@@ -1,5 +1,6 @@
 -- What each word after a command is for: an option, its value, or an argument of the command itself.
-use Rattle.std.specs.Prelude.{ℕ, Bool, true, false, not, ◌&&◌, eqb, leb, List, [], ◌∷◌, Option, Some, None, length, map, filter, find, codes, String}
+use Rattle.std.specs.Prelude.{ℕ, Bool, true, false, not, ◌&&◌, eqb, leb, List, [], ◌∷◌, Option, Some, None, length, map}
+use Rattle.std.specs.Prelude.{filter, find, codes, String}
 use Rattle.std.specs.Char.{is_ascii_digit}
 use Rattle.std.specs.List.{list_all}
 use Rattle.std.specs.Str.{bytes_eq}
@@ -72,7 +73,8 @@ number_of text = digits_value 10 text
 
 -- an argument is written in the form that its option asks for: a watch is asked for by its number
 abbrev pub is_formed : Argument → Bool
-is_formed argument = elim argument.flag as (λ _. Bool) [ None ↦ true | Some Handset ↦ true | Some Watch ↦ is_number argument.text ]
+is_formed argument =
+    elim argument.flag as (λ _. Bool) [ None ↦ true | Some Handset ↦ true | Some Watch ↦ is_number argument.text ]
 
 -- so are all arguments
 abbrev pub are_formed : List Argument → Bool

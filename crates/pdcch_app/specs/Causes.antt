@@ -1,5 +1,6 @@
 -- Why a run ends as it does: for each status its cause, in words of its own, over the words and what each fetch gave.
-use Rattle.std.specs.Prelude.{◌≡◌, ◌<◌, ◌≤◌, ◌⊎◌, ℕ, Bool, true, false, List, [], ◌∷◌, Option, Some, None, Result, Ok, Err, length, slice_get, String}
+use Rattle.std.specs.Prelude.{◌≡◌, ◌<◌, ◌≤◌, ◌⊎◌, ℕ, Bool, true, false, List, [], ◌∷◌, Option, Some, None, Result, Ok}
+use Rattle.std.specs.Prelude.{Err, length, slice_get, String}
 use Rattle.std.specs.declared.alloc.Global.{Global}
 use Rattle.rrc_settings.specs.declared.place.SettingsFault.{SettingsFault}
 use Rattle.rrc_settings.specs.declared.settings.RawCell.{RawCell}
@@ -85,10 +86,14 @@ pub record ReadBothTables (gave : List Fetched) (tables : Tables) : Type 0 where
 -- a run of the command came to a file whose fetch gave this: every file before it was read, the settings or the first table first
 pub data CameTo (command : Command) (gave : List Fetched) (entry : Fetched) : Type 0 where
   First : (rest : List Fetched) → gave ≡ entry ∷ rest → CameTo command gave entry
-  Second : (cell : RawCell) (rest : List Fetched) → takes_settings command ≡ true → ReadSettings gave cell (entry ∷ rest) → CameTo command gave entry
-  Third : (cell : RawCell) (numbers : List ℕ) (rest : List Fetched) → takes_settings command ≡ true → ReadReliability gave cell numbers (entry ∷ rest) → CameTo command gave entry
-  Fourth : (cell : RawCell) (tables : Tables) → takes_settings command ≡ true → ReadTables gave cell tables (entry ∷ []) → CameTo command gave entry
-  SecondTable : (numbers : List ℕ) → takes_settings command ≡ false → ReadFirstTable gave numbers (entry ∷ []) → CameTo command gave entry
+  Second : (cell : RawCell) (rest : List Fetched) → takes_settings command ≡ true → ReadSettings gave cell (entry ∷ rest)
+      → CameTo command gave entry
+  Third : (cell : RawCell) (numbers : List ℕ) (rest : List Fetched) → takes_settings command ≡ true
+      → ReadReliability gave cell numbers (entry ∷ rest) → CameTo command gave entry
+  Fourth : (cell : RawCell) (tables : Tables) → takes_settings command ≡ true → ReadTables gave cell tables (entry ∷ [])
+      → CameTo command gave entry
+  SecondTable : (numbers : List ℕ) → takes_settings command ≡ false → ReadFirstTable gave numbers (entry ∷ [])
+      → CameTo command gave entry
 
 -- the words are of no command
 abbrev pub WordsAreFaulty : List (String Global) → List Fetched → Type 0
@@ -140,9 +145,11 @@ pub record SecondTableIsFaulty (gave : List Fetched) : Type 0 where
   pub fault : TableFault
   pub found : read_table 164 bytes ≡ Err fault
 
--- one of the two tables is none, where every file before it was read: the tables follow the settings, where the command takes them
+-- one of the two tables is none, where every file before it was read: the tables follow the settings, where the command takes
+-- them
 pub data SomeTableIsFaulty (command : Command) (gave : List Fetched) : Type 0 where
-  BehindSettings : takes_settings command ≡ true → ReliabilityIsFaulty gave ⊎ InputOrderIsFaulty gave → SomeTableIsFaulty command gave
+  BehindSettings : takes_settings command ≡ true → ReliabilityIsFaulty gave ⊎ InputOrderIsFaulty gave
+      → SomeTableIsFaulty command gave
   AtFirst : takes_settings command ≡ false → FirstTableIsFaulty gave ⊎ SecondTableIsFaulty gave → SomeTableIsFaulty command gave
 
 -- so it is for the command of the words
@@ -213,7 +220,8 @@ pub record HandsetIsUnknown (words : List (String Global)) (gave : List Fetched)
   pub unknown : IsNamed cell name → ⊥
 
 -- a handset of the cell, of the name that the words give, has these watches in the slot of the grid, and the words give a number
-pub record AsksWatch (words : List (String Global)) (cell : RawCell) (points : GridValue) (watches : List Watch) (word : List ℕ) : Type 0 where
+pub record AsksWatch (words : List (String Global)) (cell : RawCell) (points : GridValue) (watches : List Watch)
+    (word : List ℕ) : Type 0 where
   pub name : List ℕ
   pub named : handset words ≡ Some name
   pub handset : ℕ

@@ -11,7 +11,8 @@ use Rattle.slot_grid.specs.Grid.{GridValue}
 use Rattle.table_files.specs.TableText.{read_table}
 use Rattle.table_files.specs.declared.fault.TableFault.{TableFault}
 use Rattle.run_steps.specs.Outcome.{Refusal, BadSettings, BadTable, BadGrants, BadGrid}
-use Rattle.pdcch_app.specs.Lines.{settings_line, reliability_line, input_order_line, grants_line, grid_place_line, grid_number_line}
+use Rattle.pdcch_app.specs.Lines.{settings_line, reliability_line, input_order_line, grants_line, grid_place_line}
+use Rattle.pdcch_app.specs.Lines.{grid_number_line}
 
 -- legal settings, or why they are refused
 abbrev pub settings_found : Finding → RawCell → Result RawCell Refusal

@@ -6,19 +6,24 @@ use Rattle.run_steps.specs.declared.statuses.Status.{Status}
 use Rattle.run_steps.specs.declared.statuses.Status.TheVariants as ends
 use Rattle.run_steps.specs.Outcome.{Fetched, TooLong, Fault}
 use Rattle.run_steps.specs.Ran.{Ran}
-use Rattle.pdcch_app.specs.Causes.{WordsAreFaulty, SettingsAreFaulty, TableIsFaulty, GrantsAreFaulty, GridIsFaulty, Meets, IsUnknown, SlotIsExceeded, WriteRefusesSome, JobIsDone, CauseOf}
+use Rattle.pdcch_app.specs.Causes.{WordsAreFaulty, SettingsAreFaulty, TableIsFaulty, GrantsAreFaulty, GridIsFaulty}
+use Rattle.pdcch_app.specs.Causes.{Meets, IsUnknown, SlotIsExceeded, WriteRefusesSome, JobIsDone, CauseOf}
 use Rattle.pdcch_app.specs.Outcomes.{outcome}
 use Rattle.pdcch_app.specs.Words.{named}
 
--- a run ended with a status only where the cause was there; where it was there, it ended so, for want of memory or as a fault of writing
+-- a run ended with a status only where the cause was there; where it was there, it ended so, for want of memory or as a fault
+-- of writing
 pub record EndsWhere (status : Status) (cause : Type 0) (result : Status) : Type 0 where
   pub only : result ≡ status → cause
   pub always : cause → (result ≡ status) ⊎ ((result ≡ ends.WriteFault) ⊎ (result ≡ ends.NoMemory))
 
 -- a run ends with this status exactly where this cause is there, over the words and what each of its fetches gave
 abbrev pub EndsExactly : Status → (List (String Global) → List Fetched → Type 0) → Type 0
-EndsExactly status cause = (words : List (String Global)) (shelf_old shelf_new : ShelfView) (result : Status) (out_old out_new err_old err_new : SinkView)
-    (ran : Ran (outcome words) (named words) shelf_old shelf_new result out_old out_new err_old err_new) → EndsWhere status (cause words ran.gave) result
+EndsExactly status cause =
+    (words : List (String Global)) (shelf_old shelf_new : ShelfView) (result : Status)
+    (out_old out_new err_old err_new : SinkView)
+    (ran : Ran (outcome words) (named words) shelf_old shelf_new result out_old out_new err_old err_new)
+    → EndsWhere status (cause words ran.gave) result
 
 -- an outcome has a status exactly where the cause of that status is there
 abbrev pub EndsByItsCause : Type 0

@@ -9,7 +9,8 @@ use Rattle.pdcch_app.specs.Outcomes.{outcome}
 use Rattle.pdcch_app.specs.Words.{named}
 
 -- the exit status is that of the status with which the run ended, beside what the run left
-pub record Exits (words : List (String Global)) (shelf_old shelf_new : ShelfView) (exit : ℕ) (out_old out_new err_old err_new : SinkView) : Type 0 where
+pub record Exits (words : List (String Global)) (shelf_old shelf_new : ShelfView) (exit : ℕ)
+    (out_old out_new err_old err_new : SinkView) : Type 0 where
   pub status : Status
   pub exit_is : exit ≡ code_of status
   pub ran : Ran (outcome words) (named words) shelf_old shelf_new status out_old out_new err_old err_new

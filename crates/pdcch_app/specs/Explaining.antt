@@ -1,4 +1,5 @@
--- What `explain` prints: of one watch of a handset in the slot of the grid, where it looks, and what is heard there or why nothing is.
+-- What `explain` prints: of one watch of a handset in the slot of the grid, where it looks, and what is heard there or why
+-- nothing is.
 use Rattle.std.specs.Prelude.{ℕ, true, cond, ltb, List, [], Option, Some, None, Result, Ok, Err, length}
 use Rattle.rrc_settings.specs.declared.settings.RawCell.{RawCell}
 use Rattle.monitor_budget.specs.declared.allotment.CommonOver.{CommonOver}
@@ -40,7 +41,8 @@ explained_by cell tables grid word handset (Err over) = Err (over_limits cell ha
 
 -- the same of the handset that was found by its name, or that there is none
 abbrev pub explained_of : RawCell → Tables → GridValue → List ℕ → List ℕ → Option ℕ → Result Printed Refusal
-explained_of cell tables grid name word (Some handset) = explained_by cell tables grid word handset (planned cell handset grid.frame grid.slot)
+explained_of cell tables grid name word (Some handset) =
+    explained_by cell tables grid word handset (planned cell handset grid.frame grid.slot)
 explained_of cell tables grid name word None = Err (unknown_handset name)
 
 -- what `explain` prints of a grid of the cell: the handset with a name, then its plan in the slot, then the watch

@@ -32,8 +32,10 @@ HasReport tables grid listener = IsReport tables grid listener.watches (report_o
 -- for every legal cell, any two tables and every grid on as many blocks, each handset that is reported has a report
 abbrev pub ReportsWhatIsSpelled : Type 0
 ReportsWhatIsSpelled =
-    (settings reliability input_order : List ℕ) (tables : Tables) (points : GridValue) (named : Option (List ℕ)) (handsets : List ℕ) (listeners : List Listener)
-    → first_fault_in settings ≡ None → read_table 1024 reliability ≡ Ok tables.reliability → read_table 164 input_order ≡ Ok tables.input_order
+    (settings reliability input_order : List ℕ) (tables : Tables) (points : GridValue) (named : Option (List ℕ))
+    (handsets : List ℕ) (listeners : List Listener)
+    → first_fault_in settings ≡ None → read_table 1024 reliability ≡ Ok tables.reliability
+    → read_table 164 input_order ≡ Ok tables.input_order
     → points.blocks ≡ (raw_in settings).blocks → reported (raw_in settings) named ≡ Ok handsets
     → listeners_of (raw_in settings) points.frame points.slot handsets ≡ Ok listeners
     → All (HasReport tables points) listeners
@@ -44,7 +46,8 @@ IsReported named grant = (named ≡ None) ⊎ (named ≡ Some grant.handset)
 
 -- the report of a listener that has the name in a grant has the grant's entry: at the watch where the grant was placed, of its
 -- format, with the values that it gives and 0 in every other field
-pub record StandsInReport (cell : RawCell) (tables : Tables) (grid : GridValue) (listeners : List Listener) (grant : Grant) (placed : Placed) : Type 0 where
+pub record StandsInReport (cell : RawCell) (tables : Tables) (grid : GridValue) (listeners : List Listener) (grant : Grant)
+    (placed : Placed) : Type 0 where
   pub listener : Listener
   pub among : Contains listeners listener
   pub name : (handset_at cell listener.handset).name ≡ grant.handset
@@ -53,11 +56,18 @@ pub record StandsInReport (cell : RawCell) (tables : Tables) (grid : GridValue) 
 
 -- the outcome of `search` is the report of some handsets on the grid that grants leave on a desk, and each accepted grant whose
 -- handset is reported stands in it, as it was given
-pub record HearsEach (cell : RawCell) (tables : Tables) (grants : List Grant) (desk : DeskValue) (named : Option (List ℕ)) (handsets : List ℕ) (found : Outcome) : Type 0 where
+pub record HearsEach (cell : RawCell) (tables : Tables) (grants : List Grant) (desk : DeskValue) (named : Option (List ℕ))
+    (handsets : List ℕ) (found : Outcome) : Type 0 where
   pub listeners : List Listener
   pub are : let grid = (desk_after tables desk grants).grid in listeners_of cell grid.frame grid.slot handsets ≡ Ok listeners
-  pub is : found ≡ record { status = ends.Done; out = reported_text cell tables (desk_after tables desk grants).grid listeners; err = [] }
-  pub each : (i : ℕ) (grant : Grant) (placed : Placed) → slice_get grants i ≡ Some grant → slice_get (fates desk.ledger grants) i ≡ Some (Ok placed)
+  pub is : found ≡ record {
+    status = ends.Done;
+    out = reported_text cell tables (desk_after tables desk grants).grid
+        listeners;
+    err = [];
+  }
+  pub each : (i : ℕ) (grant : Grant) (placed : Placed) → slice_get grants i ≡ Some grant
+      → slice_get (fates desk.ledger grants) i ≡ Some (Ok placed)
       → IsReported named grant → StandsInReport cell tables (desk_after tables desk grants).grid listeners grant placed
 
 -- for legal words of `write` and of `search`, every legal cell, any two tables and every legal list of grants, where no handset's
@@ -65,10 +75,12 @@ pub record HearsEach (cell : RawCell) (tables : Tables) (grants : List Grant) (d
 -- read by `search` as the grid, and its report has each accepted grant of a reported handset
 abbrev pub HearsWhatIsWritten : Type 0
 HearsWhatIsWritten =
-    (to_write to_search : List (String Global)) (settings reliability input_order grants : List ℕ) (tables : Tables) (desk : DeskValue) (handsets : List ℕ)
+    (to_write to_search : List (String Global)) (settings reliability input_order grants : List ℕ) (tables : Tables)
+    (desk : DeskValue) (handsets : List ℕ)
     → legal to_write ≡ Some Write → legal to_search ≡ Some Search
     → length settings ≤ limit → length reliability ≤ limit → length input_order ≤ limit → length grants ≤ limit
-    → first_fault_in settings ≡ None → read_table 1024 reliability ≡ Ok tables.reliability → read_table 164 input_order ≡ Ok tables.input_order
+    → first_fault_in settings ≡ None → read_table 1024 reliability ≡ Ok tables.reliability
+    → read_table 164 input_order ≡ Ok tables.input_order
     → first_grants_fault (raw_in settings).mu grants ≡ None
     → opened (raw_in settings) (grants_in grants).frame (grants_in grants).slot (length (grants_in grants).grants) ≡ Ok desk
     → reported (raw_in settings) (handset to_search) ≡ Ok handsets

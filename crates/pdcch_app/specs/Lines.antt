@@ -71,7 +71,8 @@ grant_place_text (Some grant) key =
 
 -- the line on grants
 unfoldable pub grants_line : GrantFault → List ℕ
-grants_line fault = codes "error: grants: " ++ grant_place_text fault.place.grant fault.place.key ++ codes ": " ++ reason_text fault.reason
+grants_line fault =
+    codes "error: grants: " ++ grant_place_text fault.place.grant fault.place.key ++ codes ": " ++ reason_text fault.reason
 
 -- the line on bytes that are no grid's text
 unfoldable pub grid_place_line : ℕ → List ℕ
@@ -96,4 +97,5 @@ no_such_watch_line word = codes "error: no such watch " ++ word
 -- the line on a slot in which the common sets of a handset exceed a limit, with both counts
 unfoldable pub slot_line : List ℕ → ℕ → ℕ → List ℕ
 slot_line name candidates cces =
-    codes "error: slot: handset " ++ name ++ codes ": " ++ decimal candidates ++ codes " candidates, " ++ decimal cces ++ codes " cces"
+    codes "error: slot: handset " ++ name ++ codes ": " ++ decimal candidates ++ codes " candidates, " ++ decimal cces
+    ++ codes " cces"

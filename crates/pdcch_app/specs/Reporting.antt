@@ -41,7 +41,8 @@ reported cell None = Ok (range_with_len 0 (length cell.handsets))
 
 -- the refusal of a slot in which the common sets of a handset exceed a limit
 abbrev pub over_limits : RawCell → ℕ → CommonOver → Refusal
-over_limits cell handset over = record { cause = OverLimits; line = slot_line (handset_at cell handset).name over.candidates over.cces }
+over_limits cell handset over =
+    record { cause = OverLimits; line = slot_line (handset_at cell handset).name over.candidates over.cces }
 
 -- the watches of a handset by its plan, or the refusal of its slot
 abbrev pub watches_found : RawCell → ℕ → Result (List Watch) CommonOver → Result (List Watch) Refusal
@@ -54,7 +55,8 @@ pub record Listener : Type 0 where
   pub watches : List Watch
 
 -- a handset before others, each with its watches, or the refusal of the first whose common sets exceed a limit
-abbrev pub listener_before : RawCell → ℕ → Result (List Watch) CommonOver → Result (List Listener) Refusal → Result (List Listener) Refusal
+abbrev pub listener_before : RawCell → ℕ → Result (List Watch) CommonOver → Result (List Listener) Refusal
+    → Result (List Listener) Refusal
 listener_before cell handset (Ok watches) (Ok others) = Ok (record { handset = handset; watches = watches } ∷ others)
 listener_before cell handset (Ok watches) (Err refusal) = Err refusal
 listener_before cell handset (Err over) others = Err (over_limits cell handset over)

@@ -19,7 +19,8 @@ spelled command list = command_name command ∷ flat_map (λ argument. words_und
 -- words are legal for a command exactly where they are its name and the words of arguments for it, in any order
 abbrev pub LegalWordsAreSpelled : Type 0
 LegalWordsAreSpelled = (words : List (String Global)) (command : Command)
-    → (legal words ≡ Some command) ↔ ((list : List Argument) × (are_for command list ≡ true) × (map string_bytes words ≡ spelled command list))
+    → (legal words ≡ Some command)
+    ↔ ((list : List Argument) × (are_for command list ≡ true) × (map string_bytes words ≡ spelled command list))
 
 -- plain arguments that a command is written with are the ones that are read
 abbrev pub ReadsWhatIsSpelled : Type 0

@@ -1,5 +1,6 @@
 -- Which words are legal, and which of them name files.
-use Rattle.std.specs.Prelude.{ℕ, ◌+◌, Bool, cond, ◌&&◌, eqb, leb, List, [], ◌∷◌, Option, Some, None, length, drop, take, get_or, slice_get, find, codes, option_and_then, String}
+use Rattle.std.specs.Prelude.{ℕ, ◌+◌, Bool, cond, ◌&&◌, eqb, leb, List, [], ◌∷◌, Option, Some, None, length, drop, take}
+use Rattle.std.specs.Prelude.{get_or, slice_get, find, codes, option_and_then, String}
 use Rattle.std.specs.List.{list_all}
 use Rattle.std.specs.Str.{bytes_eq}
 use Rattle.std.specs.String.{string_bytes}
@@ -10,7 +11,8 @@ use Rattle.pdcch_app.specs.declared.words.Command.{Command}
 use Rattle.pdcch_app.specs.declared.words.Command.TheVariants.{Write, Search, Explain, Sweep}
 use Rattle.pdcch_app.specs.declared.words.Use.{Use}
 use Rattle.pdcch_app.specs.declared.words.Use.TheVariants.{Never, AtMostOnce, Once}
-use Rattle.pdcch_app.specs.Arguments.{Argument, arguments, arguments_after, flags, texts_under, are_plain, are_formed, is_number, number_of}
+use Rattle.pdcch_app.specs.Arguments.{Argument, arguments, arguments_after, flags, texts_under, are_plain, are_formed}
+use Rattle.pdcch_app.specs.Arguments.{is_number, number_of}
 
 -- the name of a command
 abbrev pub command_name : Command → List ℕ
@@ -72,7 +74,8 @@ is_slots text = is_number text && leb 1 (number_of text) && leb (number_of text)
 abbrev pub are_slots : Command → List Argument → Bool
 are_slots command list = list_all is_slots (take (numbers_before command) (texts_under None list))
 
--- the arguments are plain, of the forms that their options ask for, as many as the command takes, and its numbers are in their range
+-- the arguments are plain, of the forms that their options ask for, as many as the command takes, and its numbers are in their
+-- range
 abbrev pub are_for : Command → List Argument → Bool
 are_for command list = are_plain list && are_formed list && are_as_many command list && are_slots command list
 
@@ -80,7 +83,8 @@ are_for command list = are_plain list && are_formed list && are_as_many command 
 abbrev pub legal : List (String Global) → Option Command
 legal [] = None
 legal (w ∷ ws) =
-    option_and_then (λ command. cond (are_for command (arguments_after None ws)) (Some command) None) (command_of (string_bytes w))
+    option_and_then (λ command. cond (are_for command (arguments_after None ws)) (Some command) None)
+    (command_of (string_bytes w))
 
 -- the words that name files, which stand behind the numbers of the command
 abbrev pub files : Command → List (String Global) → List (List ℕ)

@@ -37,7 +37,8 @@ answer_line number grant (Err cause) = refusal_line number grant cause
 unfoldable pub refusal_lines : ℕ → List Grant → List (Result Placed Cause) → List ℕ
 refusal_lines number [] answers = []
 refusal_lines number (grant ∷ grants) [] = []
-refusal_lines number (grant ∷ grants) (answer ∷ answers) = answer_line number grant answer ++ refusal_lines (number + 1) grants answers
+refusal_lines number (grant ∷ grants) (answer ∷ answers) =
+    answer_line number grant answer ++ refusal_lines (number + 1) grants answers
 
 -- what is printed of grants that are placed on a desk one after the other
 abbrev pub placed_on : Tables → List Grant → DeskValue → Printed
@@ -57,7 +58,8 @@ unfoldable pub written : RawCell → Tables → GrantList → Result Printed Ref
 written cell tables list = written_on cell tables list.grants (opened cell list.frame list.slot (length list.grants))
 
 -- grants were placed on a desk, and the lines of the refused ones appended; the answer says whether all were placed
-pub record ArePlaced (tables : Tables) (grants : List Grant) (old new : DeskValue) (lines_old lines_new : List ℕ) (all_placed : Bool) : Type 0 where
+pub record ArePlaced (tables : Tables) (grants : List Grant) (old new : DeskValue) (lines_old lines_new : List ℕ)
+    (all_placed : Bool) : Type 0 where
   pub desk : new ≡ desk_after tables old grants
   pub lines : lines_new ≡ lines_old ++ refusal_lines 0 grants (fates old.ledger grants)
   pub all : all_placed ≡ list_all is_placed (fates old.ledger grants)

@@ -2,7 +2,8 @@
 ghost use Rattle.std.specs.Prelude.{◌≡◌, ◌<◌, ◌+◌, ℕ, true, List, Some, None, [], ◌∷◌, length, IfSome, MatchOption, slice_get};
 ghost use Rattle.std.specs.Char.{is_ascii_digit};
 ghost use Rattle.std.specs.List.{list_all};
-ghost use Rattle.pdcch_app.specs.Arguments.{flag_of, is_plain, are_plain, is_under, arguments_after, texts_under, is_number, number_of, is_formed, are_formed};
+ghost use Rattle.pdcch_app.specs.Arguments.{flag_of, is_plain, are_plain, is_under, arguments_after, texts_under};
+ghost use Rattle.pdcch_app.specs.Arguments.{is_number, number_of, is_formed, are_formed};
 
 /// An option: the word after it is its value.
 #[derive(Clone, Copy)]
@@ -43,7 +44,9 @@ fn is_plain(word: &[u8]) -> bool
 
 /// The first argument of the words after a command, and the words after it.
 fn split_first(words: &[String]) -> Option<(Argument<'_>, &[String])>
-    ensures arguments { MatchOption result (arguments_after None words.now ≡ []) (λ parts. arguments_after None words.now ≡ record { flag = parts.0.flag; text = parts.0.text.now } ∷ arguments_after None parts.1.now) }
+    ensures arguments { MatchOption result (arguments_after None words.now ≡ [])
+        (λ parts. arguments_after None words.now ≡ record { flag = parts.0.flag; text = parts.0.text.now }
+        ∷ arguments_after None parts.1.now) }
     ensures shorter { IfSome result (λ parts. length parts.1.now < length words.now) }
 {
     let [first, rest @ ..] = words else {
@@ -63,7 +66,8 @@ fn split_first(words: &[String]) -> Option<(Argument<'_>, &[String])>
 
 /// The value of an option, which is the first of these words, and the words after it.
 fn split_value(flag: Flag, words: &[String]) -> (Argument<'_>, &[String])
-    ensures arguments { arguments_after (Some flag) words.now ≡ record { flag = result.0.flag; text = result.0.text.now } ∷ arguments_after None result.1.now }
+    ensures arguments { arguments_after (Some flag) words.now ≡ record { flag = result.0.flag; text = result.0.text.now }
+        ∷ arguments_after None result.1.now }
     ensures shorter { length result.1.now < length words.now + 1 }
 {
     match words {
@@ -115,7 +119,8 @@ pub(crate) fn count_under(wanted: Option<Flag>, words: &[String]) -> usize
 
 /// The text of one of these arguments, the first being at place 0.
 pub(crate) fn text_under(wanted: Option<Flag>, words: &[String], place: usize) -> Option<&str>
-    ensures { MatchOption result (slice_get (texts_under wanted (arguments_after None words.now)) place ≡ None) (λ text. slice_get (texts_under wanted (arguments_after None words.now)) place ≡ Some text.now) }
+    ensures { MatchOption result (slice_get (texts_under wanted (arguments_after None words.now)) place ≡ None)
+        (λ text. slice_get (texts_under wanted (arguments_after None words.now)) place ≡ Some text.now) }
 {
     let mut before = place;
     let mut left = words;

@@ -36,7 +36,8 @@ pub fn write<S: Shelf>(
     requires reliability { S.may shelf.old reliability.now }
     requires input_order { S.may shelf.old input_order.now }
     requires grants { S.may shelf.old grants.now }
-    ensures { Work (write_of settings.now reliability.now input_order.now grants.now) (settings.now ∷ reliability.now ∷ input_order.now ∷ grants.now ∷ []) (S.shows shelf.old) (S.shows shelf.new) result }
+    ensures { Work (write_of settings.now reliability.now input_order.now grants.now)
+        (settings.now ∷ reliability.now ∷ input_order.now ∷ grants.now ∷ []) (S.shows shelf.old) (S.shows shelf.new) result }
 {
     let cell = settings_at(alloc, shelf, settings)?;
     let reliability = reliability_at(alloc, shelf, reliability)?;
@@ -81,7 +82,8 @@ pub fn search<S: Shelf>(
     requires reliability { S.may shelf.old reliability.now }
     requires input_order { S.may shelf.old input_order.now }
     requires grid { S.may shelf.old grid.now }
-    ensures { Work (search_of (handset words.now) settings.now reliability.now input_order.now grid.now) (settings.now ∷ reliability.now ∷ input_order.now ∷ grid.now ∷ []) (S.shows shelf.old) (S.shows shelf.new) result }
+    ensures { Work (search_of (handset words.now) settings.now reliability.now input_order.now grid.now)
+        (settings.now ∷ reliability.now ∷ input_order.now ∷ grid.now ∷ []) (S.shows shelf.old) (S.shows shelf.new) result }
 {
     let cell = settings_at(alloc, shelf, settings)?;
     let reliability = reliability_at(alloc, shelf, reliability)?;
@@ -105,7 +107,8 @@ fn explain_text(
     requires words { legal words.now ≡ Some Command.Explain }
     requires mu { grid.now.mu ≡ cell.now.mu }
     requires blocks { grid.now.blocks ≡ cell.now.blocks }
-    ensures { Ends result (ended (explained cell.now tables.now grid.now (value words.now Flag.Handset) (value words.now Flag.Watch))) }
+    ensures { Ends result (ended (explained cell.now tables.now grid.now (value words.now Flag.Handset)
+        (value words.now Flag.Watch))) }
 {
     let name = value(words, Flag::Handset);
     let word = value(words, Flag::Watch);
@@ -129,7 +132,8 @@ pub fn explain<S: Shelf>(
     requires input_order { S.may shelf.old input_order.now }
     requires grid { S.may shelf.old grid.now }
     ensures { Work
-        (explain_of (value words.now Flag.Handset) (value words.now Flag.Watch) settings.now reliability.now input_order.now grid.now)
+        (explain_of (value words.now Flag.Handset) (value words.now Flag.Watch)
+        settings.now reliability.now input_order.now grid.now)
         (settings.now ∷ reliability.now ∷ input_order.now ∷ grid.now ∷ []) (S.shows shelf.old) (S.shows shelf.new) result }
 {
     let cell = settings_at(alloc, shelf, settings)?;
@@ -157,7 +161,8 @@ pub fn sweep<R: Threads + Sync, G: Gate, S: Shelf>(
     requires most { slots ≤ 200 }
     requires reliability { S.may shelf.old reliability.now }
     requires input_order { S.may shelf.old input_order.now }
-    ensures { Work (sweep_of slots reliability.now input_order.now) (reliability.now ∷ input_order.now ∷ []) (S.shows shelf.old) (S.shows shelf.new) result }
+    ensures { Work (sweep_of slots reliability.now input_order.now) (reliability.now ∷ input_order.now ∷ []) (S.shows shelf.old)
+        (S.shows shelf.new) result }
 {
     let reliability = reliability_at(alloc, shelf, reliability)?;
     let input_order = input_order_at(alloc, shelf, input_order)?;

@@ -55,7 +55,8 @@ pub fn reports_what_is_spelled()
     ensures { ReportsWhatIsSpelled }
 {}
 
-/// What `write` prints is a grid that `search` reads, and its report has each accepted grant of a reported handset, as it was given.
+/// What `write` prints is a grid that `search` reads, and its report has each accepted grant of a reported handset, as
+/// it was given.
 pub fn hears_what_is_written()
     ensures { HearsWhatIsWritten }
 {}
@@ -72,7 +73,8 @@ pub fn ends_as_usage()
     ensures { EndsAsUsage }
 {}
 
-/// A run ends with refused settings exactly where it is to write, to search or to explain and the first file is no legal settings.
+/// A run ends with refused settings exactly where it is to write, to search or to explain and the first file is no
+/// legal settings.
 pub fn ends_as_settings_refused()
     ensures { EndsAsSettingsRefused }
 {}
@@ -124,10 +126,10 @@ pub fn ends_as_grants_refused()
     ensures { EndsAsGrantsRefused }
 {}
 
-/// A run ends as done exactly where every file was read, the common sets of no handset exceed a limit in the slot (in `search`
-/// of no reported one, in `explain` not those of the named one), and in `write` each of the grants was placed, in `search` the cell
-/// has a handset that the words name, in `explain` it has the handset that they name and this the watch of the number that they give.
-/// `sweep` reads the two tables alone, and nothing else is asked of it.
+/// A run ends as done exactly where every file was read, the common sets of no handset exceed a limit in the slot (in
+/// `search` of no reported one, in `explain` not those of the named one), and in `write` each of the grants was
+/// placed, in `search` the cell has a handset that the words name, in `explain` it has the handset that they name and
+/// this the watch of the number that they give. `sweep` reads the two tables alone, and nothing else is asked of it.
 pub fn ends_as_done()
     ensures { EndsAsDone }
 {}

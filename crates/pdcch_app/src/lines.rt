@@ -1,7 +1,9 @@
 //! The lines of the error output on the words, on what a file holds and on a slot, without their line feed.
 ghost use Rattle.std.specs.Prelude.{◌≡◌, ◌++◌, IfOk, OnOk};
 ghost use Rattle.std.specs.List.{flat_map};
-ghost use Rattle.pdcch_app.specs.Lines.{reason_text, step_text, further, place_text, settings_line, table_fault_text, reliability_line, input_order_line, grant_place_text, grants_line, grid_place_line, grid_number_line, usage_line, slot_line};
+ghost use Rattle.pdcch_app.specs.Lines.{reason_text, step_text, further, place_text, settings_line, table_fault_text};
+ghost use Rattle.pdcch_app.specs.Lines.{reliability_line, input_order_line, grant_place_text, grants_line};
+ghost use Rattle.pdcch_app.specs.Lines.{grid_place_line, grid_number_line, usage_line, slot_line};
 ghost use Rattle.pdcch_app.specs.Lines.{no_such_handset_line, no_such_watch_line};
 
 use grant_file::{GrantFault, GrantKey, GrantPlace};

@@ -6,7 +6,8 @@ ghost use Rattle.monitor_plan.specs.Watch.{IsInside};
 ghost use Rattle.run_steps.specs.Outcome.{checked, ended, refused};
 ghost use Rattle.run_steps.specs.Steps.{Ends, IsRead, IsStop};
 ghost use Rattle.pdcch_app.specs.Lines.{no_such_handset_line, slot_line};
-ghost use Rattle.pdcch_app.specs.Reporting.{handset_found, handset_named, heard_by, listeners_of, searched, watches_found, Listens};
+ghost use Rattle.pdcch_app.specs.Reporting.{handset_found, handset_named, heard_by, listeners_of, searched};
+ghost use Rattle.pdcch_app.specs.Reporting.{watches_found, Listens};
 
 use crate::lines::{no_such_handset_line, slot_line};
 use blind_search::Searcher;
@@ -87,7 +88,8 @@ fn report_of(
     requires handsets { end ≤ length cell.now.handsets }
     requires mu { grid.now.mu ≡ cell.now.mu }
     requires blocks { grid.now.blocks ≡ cell.now.blocks }
-    ensures { Ends result (ended (heard_by cell.now tables.now grid.now (listeners_of cell.now grid.now.frame grid.now.slot (range_with_len first (end - first))))) }
+    ensures { Ends result (ended (heard_by cell.now tables.now grid.now
+        (listeners_of cell.now grid.now.frame grid.now.slot (range_with_len first (end - first))))) }
 {
     let mut text = Vec::new(alloc);
     append_head(alloc, grid, &mut text)?;
@@ -123,7 +125,8 @@ fn push_handset(
 pub fn plan_of(alloc: Global, cell: &Cell, grid: &Grid, handset: usize) -> Result<Plan, Stop>
     requires handset { handset < length cell.now.handsets }
     requires mu { grid.now.mu ≡ cell.now.mu }
-    ensures read { IsRead result (checked (watches_found cell.now handset (planned cell.now handset grid.now.frame grid.now.slot))) }
+    ensures read { IsRead result (checked (watches_found cell.now handset
+        (planned cell.now handset grid.now.frame grid.now.slot))) }
     ensures inside { IfOk result (λ plan. All (IsInside cell.now.blocks) plan) }
 {
     match Plan::of(alloc, cell, handset, grid.frame(), grid.slot()) {

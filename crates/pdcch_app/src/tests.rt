@@ -1,5 +1,5 @@
-//! Runs over memory: the example's grid and report, which come from outside, and shelves and sinks that fail; and a desk with less
-//! room than grants. What the built program does with files, words and the exit status is shown by the cases beside the crates.
+//! Runs over memory: the example's grid and report, which come from outside, and shelves and sinks that fail. What the
+//! built program does with files, words and the exit status is shown by the cases beside the crates.
 ghost use Rattle.std.specs.Prelude.{ℕ, List};
 
 use crate::top::run;
@@ -10,7 +10,6 @@ use std::alloc::{AllocError, Global};
 use std::test::Fail;
 use std::thread::Threads;
 
-mod full_desk;
 mod outcomes;
 mod short_shelf;
 

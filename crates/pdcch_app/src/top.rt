@@ -93,10 +93,12 @@ pub fn run<R: Threads + Sync, G: Gate, S: Shelf, K: Sink, L: Sink>(
     err: &mut L,
 ) -> Status
     requires { All (S.may shelf.old) (named words.now) }
-    ensures ran { Ran (outcome words.now) (named words.now) (S.shows shelf.old) (S.shows shelf.new) result (K.shows out.old) (K.shows out.new) (L.shows err.old) (L.shows err.new) }
+    ensures ran { Ran (outcome words.now) (named words.now) (S.shows shelf.old) (S.shows shelf.new) result (K.shows out.old)
+        (K.shows out.new) (L.shows err.old) (L.shows err.new) }
 
     // Where all named files are told and no count of faults rises, the run ends as the told bytes want it.
-    ensures complete { Completes (outcome words.now) (named words.now) (S.shows shelf.old) (S.shows shelf.new) result (K.shows out.old) (K.shows out.new) (L.shows err.old) (L.shows err.new) }
+    ensures complete { Completes (outcome words.now) (named words.now) (S.shows shelf.old) (S.shows shelf.new) result
+        (K.shows out.old) (K.shows out.new) (L.shows err.old) (L.shows err.new) }
 {
     finish(answer_of(rt, alloc, gate, words, shelf), out, err)
 }
@@ -112,7 +114,8 @@ pub fn exit_status<R: Threads + Sync, G: Gate, S: Shelf, K: Sink, L: Sink>(
     err: &mut L,
 ) -> u8
     requires { All (S.may shelf.old) (named words.now) }
-    ensures { Exits words.now (S.shows shelf.old) (S.shows shelf.new) result (K.shows out.old) (K.shows out.new) (L.shows err.old) (L.shows err.new) }
+    ensures { Exits words.now (S.shows shelf.old) (S.shows shelf.new) result (K.shows out.old) (K.shows out.new) (L.shows err.old)
+        (L.shows err.new) }
 {
     run(rt, alloc, gate, words, shelf, out, err).code()
 }

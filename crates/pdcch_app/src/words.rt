@@ -1,10 +1,12 @@
 //! The words of the command line.
-ghost use Rattle.std.specs.Prelude.{◌≡◌, ◌≢◌, ◌<◌, ◌≤◌, Some, None, [], length, drop, IfSome, IfOk, IfErr, MatchOption, MatchResult, slice_get};
+ghost use Rattle.std.specs.Prelude.{◌≡◌, ◌≢◌, ◌<◌, ◌≤◌, Some, None, [], length, drop, IfSome, IfOk, IfErr, MatchOption};
+ghost use Rattle.std.specs.Prelude.{MatchResult, slice_get};
 ghost use Rattle.std.specs.Vec.Iter.{into_iter_items};
 ghost use Rattle.std.specs.IoError.{error_kind};
 ghost use Rattle.std.specs.declared.io.ErrorKind.TheVariants.{InvalidData};
 ghost use Rattle.pdcch_app.specs.Arguments.{arguments, arguments_after, texts_under};
-ghost use Rattle.pdcch_app.specs.Words.{legal, files, file, handset, value, slots, count_of, command_of, numbers_before, use_of, allows, is_slots, are_slots};
+ghost use Rattle.pdcch_app.specs.Words.{legal, files, file, handset, value, slots, count_of, command_of};
+ghost use Rattle.pdcch_app.specs.Words.{numbers_before, use_of, allows, is_slots, are_slots};
 
 use crate::arguments::{
     Flag, are_formed, are_plain, count_under, is_number, number_of, text_under,
@@ -170,7 +172,8 @@ pub fn legal(words: &[String]) -> Option<Command>
 
 /// The argument under no option at a place, the first being at place 0.
 fn argument(words: &[String], place: usize) -> Option<&str>
-    ensures { MatchOption result (slice_get (texts_under None (arguments words.now)) place ≡ None) (λ text. slice_get (texts_under None (arguments words.now)) place ≡ Some text.now) }
+    ensures { MatchOption result (slice_get (texts_under None (arguments words.now)) place ≡ None)
+        (λ text. slice_get (texts_under None (arguments words.now)) place ≡ Some text.now) }
 {
     let [_, rest @ ..] = words else {
         return None;
@@ -237,7 +240,8 @@ fn words_after_first(alloc: Global, all: Args) -> Result<Vec<String>, AllocError
 /// since a run on no words is refused as a faulty command line.
 pub fn words_of(alloc: Global, given: io::Result<Args>) -> Result<Vec<String>, AllocError>
     ensures texts { IfOk given (λ all. IfOk result (λ words. words.items ≡ drop 1 (into_iter_items all))) }
-    ensures no_text { IfErr given (λ error. MatchResult result (λ words. (words.items ≡ []) × (error_kind error ≡ InvalidData)) (λ _. error_kind error ≢ InvalidData)) }
+    ensures no_text { IfErr given (λ error. MatchResult result (λ words. (words.items ≡ []) × (error_kind error ≡ InvalidData))
+        (λ _. error_kind error ≢ InvalidData)) }
 {
     match given {
         Ok(all) => words_after_first(alloc, all),

@@ -17,10 +17,12 @@ use Rattle.report_text.specs.Refusal.{NamesField, IsNamed}
 use Rattle.report_text.proofs.NamedFields.{named_from_fault}
 
 -- what holds of one refusal holds of the one that is answered
-named_along : {T : Type 0} (grant : Grant) (a b : Refusal) → ◌≡◌ {A = Result T Refusal} (Err a) (Err b) → IsNamed grant a → IsNamed grant b
+named_along : {T : Type 0} (grant : Grant) (a b : Refusal) → ◌≡◌ {A = Result T Refusal} (Err a) (Err b) → IsNamed grant a
+    → IsNamed grant b
 named_along grant a b e h = let s : a ≡ b = cc in subst (IsNamed grant) s h
 
-named_room : (grant : Grant) (has_room : Bool) (a : Accepted) (room : ℕ) (r : Refusal) → cond has_room (Ok a) (Err (Full room)) ≡ Err r → IsNamed grant r
+named_room : (grant : Grant) (has_room : Bool) (a : Accepted) (room : ℕ) (r : Refusal)
+    → cond has_room (Ok a) (Err (Full room)) ≡ Err r → IsNamed grant r
 named_room grant true a room r e = absurd (let f : ⊥ = cc in f)
 named_room grant false a room r e = named_along grant (Full room) r e tt
 
@@ -29,8 +31,10 @@ named_free : (ledger : LedgerValue) (grant : Grant) (handset : ℕ) (first : Wat
 named_free ledger grant handset first None r e = named_along grant _ r e tt
 named_free ledger grant handset first (Some watch) r e = named_room grant _ _ _ r e
 
-named_fault : (ledger : LedgerValue) (grant : Grant) (handset : ℕ) (watches : List Watch) (first : Watch) (found : Option FieldFault) (r : Refusal)
-    → ((fault : FieldFault) → found ≡ Some fault → NamesField grant fault) → by_fault ledger grant handset watches first found ≡ Err r → IsNamed grant r
+named_fault : (ledger : LedgerValue) (grant : Grant) (handset : ℕ) (watches : List Watch) (first : Watch)
+    (found : Option FieldFault) (r : Refusal)
+    → ((fault : FieldFault) → found ≡ Some fault → NamesField grant fault)
+    → by_fault ledger grant handset watches first found ≡ Err r → IsNamed grant r
 named_fault ledger grant handset watches first (Some fault) r h e = named_along grant _ r e (h fault refl)
 named_fault ledger grant handset watches first None r h e = named_free ledger grant handset first _ r e
 
@@ -40,7 +44,8 @@ named_first ledger grant handset watches None r words e = named_along grant _ r 
 named_first ledger grant handset watches (Some k) r words e =
     let rows = list_of (watch_at watches k) grant.format in
     named_fault ledger grant handset watches (watch_at watches k) (field_fault rows grant.format grant.given) r
-    (λ fault f. named_from_fault rows grant.format grant fault words ((finds_field_fault rows grant.format grant.given fault).0 f)) e
+    (λ fault f. named_from_fault rows grant.format grant fault words
+    ((finds_field_fault rows grant.format grant.given fault).0 f)) e
 
 named_set : (ledger : LedgerValue) (grant : Grant) (handset : ℕ) (watches : List Watch) (has_set : Bool) (r : Refusal)
     → length grant.given ≡ length grant.words → by_set ledger grant handset watches has_set ≡ Err r → IsNamed grant r

@@ -29,7 +29,8 @@ flaw_word Reference = codes "reference"
 -- the place that is bad
 unfoldable pub spot_text : BadPlace → List ℕ
 spot_text bad =
-    codes "silent: " ++ flaw_word bad.flaw ++ codes " at symbol " ++ decimal bad.symbol ++ codes " subcarrier " ++ decimal bad.subcarrier
+    codes "silent: " ++ flaw_word bad.flaw ++ codes " at symbol " ++ decimal bad.symbol ++ codes " subcarrier "
+    ++ decimal bad.subcarrier
 
 -- why nothing was heard
 abbrev pub silent_text : Silence → List ℕ

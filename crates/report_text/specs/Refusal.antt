@@ -44,7 +44,8 @@ value_at grant at = (slice_index_or grant.given at no_value).value
 abbrev pub field_cause : Grant → FieldFault → List ℕ
 field_cause grant (Unknown at) = codes "unknown field " ++ word_at grant at
 field_cause grant (TooLarge at width) =
-    codes "field " ++ word_at grant at ++ codes " too large: " ++ decimal (value_at grant at) ++ codes " for " ++ decimal width ++ codes " bits"
+    codes "field " ++ word_at grant at ++ codes " too large: " ++ decimal (value_at grant at) ++ codes " for "
+    ++ decimal width ++ codes " bits"
 field_cause grant AllOnes = codes "field fdra all ones"
 
 -- why a grant was refused

@@ -1,7 +1,8 @@
 //! The lines of one watch: where it looks, and what was heard there or why nothing was.
 ghost use Rattle.std.specs.Prelude.{◌≡◌};
 ghost use Rattle.plain_text.specs.Appending.{Appends};
-ghost use Rattle.report_text.specs.Explain.{watch_start, watch_line, flaw_word, spot_text, silent_text, format_text, heard_text, answer_text, answer_line, explain_text};
+ghost use Rattle.report_text.specs.Explain.{watch_start, watch_line, flaw_word, spot_text, silent_text, format_text};
+ghost use Rattle.report_text.specs.Explain.{heard_text, answer_text, answer_line, explain_text};
 
 use crate::report::{push_fields, push_watch};
 use bits_core::NoMemory;

@@ -1,7 +1,8 @@
 //! The line of a grant that was refused.
 ghost use Rattle.std.specs.Prelude.{◌≡◌};
 ghost use Rattle.plain_text.specs.Appending.{Appends};
-ghost use Rattle.report_text.specs.Refusal.{IsNamed, NamesField, IsWorded, word_at, value_at, field_cause, cause_text, refusal_start, refusal_line};
+ghost use Rattle.report_text.specs.Refusal.{IsNamed, NamesField, IsWorded, word_at, value_at, field_cause, cause_text};
+ghost use Rattle.report_text.specs.Refusal.{refusal_start, refusal_line};
 
 use bits_core::NoMemory;
 use cell_placer::Refusal;

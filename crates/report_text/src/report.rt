@@ -2,7 +2,8 @@
 ghost use Rattle.std.specs.Prelude.{◌<◌, All, length};
 ghost use Rattle.std.specs.List.{flat_map};
 ghost use Rattle.plain_text.specs.Appending.{Appends};
-ghost use Rattle.report_text.specs.Report.{handset_line, watch_text, field_text, heard_start, heard_line, entry_line, report_text};
+ghost use Rattle.report_text.specs.Report.{handset_line, watch_text, field_text, heard_start, heard_line, entry_line};
+ghost use Rattle.report_text.specs.Report.{report_text};
 
 use bits_core::NoMemory;
 use dci_codec::Heard;

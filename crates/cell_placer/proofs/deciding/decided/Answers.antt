@@ -12,5 +12,6 @@ returns-in-Some-clause-ready c =
     let g = c.args.grant.now in
     let same : c.decided_in.result ≡ decided l g =
     c.decided_in.ensures
-    ∙ ap (by_handset l g) (sym c.in-Some.is ∙ c.handset_of.ensures ∙ ap (λ (ms : List Member). position (λ (m : Member). bytes_eq m.name g.handset) ms) c.members.ensures.value) in
+    ∙ ap (by_handset l g) (sym c.in-Some.is ∙ c.handset_of.ensures
+    ∙ ap (λ (ms : List Member). position (λ (m : Member). bytes_eq m.name g.handset) ms) c.members.ensures.value) in
     ready_if l g c.decided_in.result c.members.ensures.ledger same

@@ -6,5 +6,7 @@ use Rattle.cell_placer.proofs.owners.least_owner.Given as goal
 
 abbrev pub invariant-loop-reg : goal.invariant-loop-reg
 invariant-loop-reg l =
-    fold (λ (best : Option ℕ) (r : Reg). least best (slice_index_or l.owners (owner_place l.blocks l.symbol r) None)) l.best (drop l.reg-index l.regs)
-    ≡ fold (λ (best : Option ℕ) (r : Reg). least best (slice_index_or l.owners (owner_place l.blocks l.symbol r) None)) None l.regs
+    fold (λ (best : Option ℕ) (r : Reg). least best (slice_index_or l.owners (owner_place l.blocks l.symbol r) None)) l.best
+    (drop l.reg-index l.regs)
+    ≡ fold (λ (best : Option ℕ) (r : Reg). least best (slice_index_or l.owners (owner_place l.blocks l.symbol r) None)) None
+    l.regs

@@ -6,5 +6,7 @@ use Rattle.cell_placer.proofs.owners.own.Given as goal
 
 abbrev pub invariant-loop-reg : goal.invariant-loop-reg
 invariant-loop-reg l =
-    fold (λ (table : List (Option ℕ)) (r : Reg). slice_set table (owner_place l.blocks l.symbol r) (Some l.call)) l.owners (drop l.reg-index l.regs)
-    ≡ fold (λ (table : List (Option ℕ)) (r : Reg). slice_set table (owner_place l.blocks l.symbol r) (Some l.call)) l.initial.owners l.regs
+    fold (λ (table : List (Option ℕ)) (r : Reg). slice_set table (owner_place l.blocks l.symbol r) (Some l.call)) l.owners
+    (drop l.reg-index l.regs)
+    ≡ fold (λ (table : List (Option ℕ)) (r : Reg). slice_set table (owner_place l.blocks l.symbol r) (Some l.call))
+    l.initial.owners l.regs

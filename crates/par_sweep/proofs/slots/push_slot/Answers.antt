@@ -13,21 +13,28 @@ pub place_all-counted-requires : goal.place_all-counted-requires
 place_all-counted-requires c =
     let t = c.args.t in
     let calls = ap (λ (d : DeskValue). d.ledger.calls) c.in_ok-desk.ensures ∙ no_calls t in
-    let grants = ap (λ (gs : List Grant). length gs) (c.as_slice.ensures ∙ ap (λ (l : GrantList). l.grants) c.in_ok-list.ensures) ∙ count_of_grants t in
+    let grants = ap (λ (gs : List Grant). length gs)
+    (c.as_slice.ensures ∙ ap (λ (l : GrantList). l.grants) c.in_ok-list.ensures) ∙ count_of_grants t in
     omega (arith, calls, grants)
 
 pub returns-clause-grids : goal.returns-clause-grids
 returns-clause-grids c =
-    let grants : c.as_slice.result.now ≡ (load_grants c.args.t).grants = c.as_slice.ensures ∙ ap (λ (l : GrantList). l.grants) c.in_ok-list.ensures in
+    let grants : c.as_slice.result.now ≡ (load_grants c.args.t).grants = c.as_slice.ensures
+    ∙ ap (λ (l : GrantList). l.grants) c.in_ok-list.ensures in
     let grid =
-    grid_of c.args.tables.now c.args.t c.in_ok-desk.desk c.place_all-counted.new.desk c.as_slice.result.now c.into_grid.result c.in_ok-desk.ensures grants
+    grid_of c.args.tables.now c.args.t c.in_ok-desk.desk c.place_all-counted.new.desk c.as_slice.result.now
+    c.into_grid.result c.in_ok-desk.ensures grants
     c.place_all-counted.ensures.desk c.into_grid.ensures
     in
     always c.push_value-2.result _
-    (pushed c.args.grids.now.items c.push_value.new.values.items c.into_grid.result (slot_grid c.args.tables.now c.args.t) c.in_ok-push_value.ensures grid)
+    (pushed c.args.grids.now.items c.push_value.new.values.items c.into_grid.result (slot_grid c.args.tables.now c.args.t)
+    c.in_ok-push_value.ensures grid)
 
 pub returns-clause-counts : goal.returns-clause-counts
 returns-clause-counts c =
-    let grants : c.as_slice.result.now ≡ (load_grants c.args.t).grants = c.as_slice.ensures ∙ ap (λ (l : GrantList). l.grants) c.in_ok-list.ensures in
-    let counts = counts_there c.args.t c.in_ok-desk.desk c.as_slice.result.now c.place_all-counted.result c.in_ok-desk.ensures grants c.place_all-counted.ensures.counts in
-    MatchResult-weaker c.push_value-2.result c.push_value-2.ensures (λ x e. e ∙ ap (λ (k : Counts). c.args.counts.now.items ++ k ∷ []) counts) (λ y n. n)
+    let grants : c.as_slice.result.now ≡ (load_grants c.args.t).grants = c.as_slice.ensures
+    ∙ ap (λ (l : GrantList). l.grants) c.in_ok-list.ensures in
+    let counts = counts_there c.args.t c.in_ok-desk.desk c.as_slice.result.now c.place_all-counted.result
+    c.in_ok-desk.ensures grants c.place_all-counted.ensures.counts in
+    MatchResult-weaker c.push_value-2.result c.push_value-2.ensures
+    (λ x e. e ∙ ap (λ (k : Counts). c.args.counts.now.items ++ k ∷ []) counts) (λ y n. n)

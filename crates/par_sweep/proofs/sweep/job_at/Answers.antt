@@ -21,7 +21,8 @@ not_over a over e = cc
 there : (cell : RawCell) (number : ℕ) → cell ≡ load_cell
     → planned cell (number % 32) (number / 32 / 10) (number / 32 % 10) ≡ Ok (slot_watches (number / 32) (number % 32))
 there cell number e =
-    ap (λ (x : RawCell). planned x (number % 32) (number / 32 / 10) (number / 32 % 10)) e ∙ (plans_every_slot (number / 32)).watches (number % 32) (omega arith)
+    ap (λ (x : RawCell). planned x (number % 32) (number / 32 / 10) (number / 32 % 10)) e
+    ∙ (plans_every_slot (number / 32)).watches (number % 32) (omega arith)
 
 pub of-requires-clause-handset : goal.of-requires-clause-handset
 of-requires-clause-handset c =

@@ -15,53 +15,66 @@ use Rattle.par_sweep.proofs.sweep.sweep_of.Goals as goal
 pub loop-t-preserved : goal.loop-t-preserved
 loop-t-preserved g c =
     let l = c.loop-t in
-    swept_more c.args.tables.now l.t l.grids.items c.push_slot.new.grids.items l.counts.items c.push_slot.new.counts.items l.invariant
+    swept_more c.args.tables.now l.t l.grids.items c.push_slot.new.grids.items l.counts.items c.push_slot.new.counts.items
+    l.invariant
     c.in_ok-push_slot.ensures.grids c.in_ok-push_slot.ensures.counts
 
 pub search_all-requires-after_bounds : goal.search_all-requires-after_bounds
 search_all-requires-after_bounds g c =
     let l = c.loop-t in
-    let swept = swept_all c.args.tables.now l.t c.args.number l.grids.items l.counts.items l.auto.t-end c.loop-t-test.false l.invariant in
+    let swept = swept_all c.args.tables.now l.t c.args.number l.grids.items l.counts.items l.auto.t-end c.loop-t-test.false
+    l.invariant in
     λ κs bounds. all_can_search c.args.tables.now c.args.number c.as_slice.result.now c.deref_mut.result.now c.requires.most
     (c.as_slice.ensures.value ∙ swept.grids_are) (c.deref_mut.ensures.value ∙ c.in_ok-jobs.ensures)
 
 -- the counts are those of the slots that were asked for
-counted : (tables : Tables) (t n : ℕ) (grids : List GridValue) (counts read : List Counts) → t ≤ n → n ≤ t → AreSwept tables t grids counts → read ≡ counts → length read ≡ n
+counted : (tables : Tables) (t n : ℕ) (grids : List GridValue) (counts read : List Counts) → t ≤ n → n ≤ t
+    → AreSwept tables t grids counts → read ≡ counts → length read ≡ n
 counted tables t n grids counts read h k swept e =
     ap (λ (ks : List Counts). length ks) e ∙ length-swept tables n grids counts (swept_all tables t n grids counts h k swept)
 
 pub totals_of-requires-clause-slots : goal.totals_of-requires-clause-slots
 totals_of-requires-clause-slots g c =
     let l = c.loop-t in
-    let n = counted c.args.tables.now l.t c.args.number l.grids.items l.counts.items c.as_slice-2.result.now l.auto.t-end c.loop-t-test.false l.invariant c.as_slice-2.ensures.value in
+    let n = counted c.args.tables.now l.t c.args.number l.grids.items l.counts.items c.as_slice-2.result.now l.auto.t-end
+    c.loop-t-test.false l.invariant c.as_slice-2.ensures.value in
     omega (arith, n, c.requires.most)
 
 pub totals_of-requires-clause-counts : goal.totals_of-requires-clause-counts
 totals_of-requires-clause-counts g c =
     let l = c.loop-t in
-    let n = counted c.args.tables.now l.t c.args.number l.grids.items l.counts.items c.as_slice-2.result.now l.auto.t-end c.loop-t-test.false l.invariant c.as_slice-2.ensures.value in
-    let swept = swept_all c.args.tables.now l.t c.args.number l.grids.items l.counts.items l.auto.t-end c.loop-t-test.false l.invariant in
+    let n = counted c.args.tables.now l.t c.args.number l.grids.items l.counts.items c.as_slice-2.result.now l.auto.t-end
+    c.loop-t-test.false l.invariant c.as_slice-2.ensures.value in
+    let swept = swept_all c.args.tables.now l.t c.args.number l.grids.items l.counts.items l.auto.t-end c.loop-t-test.false
+    l.invariant in
     c.as_slice-2.ensures.value ∙ swept.counts_are ∙ ap (λ (k : ℕ). map slot_counts (range_with_len 0 k)) (sym n)
 
 pub totals_of-requires-clause-jobs : goal.totals_of-requires-clause-jobs
 totals_of-requires-clause-jobs g c =
     let l = c.loop-t in
     let tables = c.args.tables.now in
-    let n = counted tables l.t c.args.number l.grids.items l.counts.items c.as_slice-2.result.now l.auto.t-end c.loop-t-test.false l.invariant c.as_slice-2.ensures.value in
+    let n = counted tables l.t c.args.number l.grids.items l.counts.items c.as_slice-2.result.now l.auto.t-end
+    c.loop-t-test.false l.invariant c.as_slice-2.ensures.value in
     let swept = swept_all tables l.t c.args.number l.grids.items l.counts.items l.auto.t-end c.loop-t-test.false l.invariant in
     let old = c.in_ok-jobs.jobs.items in
     let new = c.search_all.new.jobs in
     let searched : new ≡ map (job_searched tables c.as_slice.result.now) old =
     c.search_all.ensures ∙ ap (map (job_searched tables c.as_slice.result.now)) c.deref_mut.ensures.value
     in
-    let kept : length new ≡ length old = ap (λ (js : List Job). length js) searched ∙ length-map old (job_searched tables c.as_slice.result.now) in
-    let count : length old ≡ c.in_ok-jobs.jobs.len = sym (ap (λ (js : List Job). length js) c.deref_mut.ensures.value) ∙ c.deref_mut.ensures.len in
+    let kept : length new ≡ length old = ap (λ (js : List Job). length js) searched
+    ∙ length-map old (job_searched tables c.as_slice.result.now) in
+    let count : length old ≡ c.in_ok-jobs.jobs.len = sym (ap (λ (js : List Job). length js) c.deref_mut.ensures.value)
+    ∙ c.deref_mut.ensures.len in
     c.as_slice-3.ensures.value ∙ written_back c.in_ok-jobs.jobs.len new old kept count
-    ∙ all_searched tables c.args.number c.as_slice.result.now old new (c.as_slice.ensures.value ∙ swept.grids_are) c.in_ok-jobs.ensures searched
+    ∙ all_searched tables c.args.number c.as_slice.result.now old new (c.as_slice.ensures.value ∙ swept.grids_are)
+    c.in_ok-jobs.ensures searched
     ∙ ap (λ (k : ℕ). map (searched_at tables) (range_with_len 0 (32 * k))) (sym n)
 
 pub returns : goal.returns
 returns g c =
     let l = c.loop-t in
-    let n = counted c.args.tables.now l.t c.args.number l.grids.items l.counts.items c.as_slice-2.result.now l.auto.t-end c.loop-t-test.false l.invariant c.as_slice-2.ensures.value in
-    subst (λ (k : ℕ). IfOk c.totals_of.result (λ (totals : Vec SlotTotals Global). totals.items ≡ map (slot_totals c.args.tables.now) (range_with_len 0 k))) n c.totals_of.ensures
+    let n = counted c.args.tables.now l.t c.args.number l.grids.items l.counts.items c.as_slice-2.result.now l.auto.t-end
+    c.loop-t-test.false l.invariant c.as_slice-2.ensures.value in
+    subst (λ (k : ℕ). IfOk c.totals_of.result
+    (λ (totals : Vec SlotTotals Global). totals.items ≡ map (slot_totals c.args.tables.now) (range_with_len 0 k))) n
+    c.totals_of.ensures

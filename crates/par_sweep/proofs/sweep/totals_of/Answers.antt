@@ -16,7 +16,8 @@ no_counts = record { placed = 0; overlapped = 0 }
 pub slice_bounds-heard_by-end : goal.slice_bounds-heard_by-end
 slice_bounds-heard_by-end c =
     let n = length c.args.counts.now in
-    let count : length c.args.jobs.now ≡ 32 * n = ap (λ (js : List Job). length js) c.requires.jobs ∙ length-map-range_with_len (searched_at c.args.tables.now) 0 (32 * n) in
+    let count : length c.args.jobs.now ≡ 32 * n = ap (λ (js : List Job). length js) c.requires.jobs
+    ∙ length-map-range_with_len (searched_at c.args.tables.now) 0 (32 * n) in
     omega (arith, count, c.loop-t-test.true)
 
 pub heard_by-heard-requires-clause-found : goal.heard_by-heard-requires-clause-found
@@ -30,8 +31,10 @@ loop-t-preserved c =
     let t = c.loop-t.t in
     let within : t < n = c.loop-t-test.true in
     let counted : get_or c.args.counts.now t no_counts ≡ slot_counts t =
-    ap (λ (ks : List Counts). get_or ks t no_counts) c.requires.counts ∙ get_or-map-range_with_len slot_counts 0 n t t no_counts within (omega arith)
+    ap (λ (ks : List Counts). get_or ks t no_counts) c.requires.counts
+    ∙ get_or-map-range_with_len slot_counts 0 n t t no_counts within (omega arith)
     in
     let heard = c.heard_by-heard.ensures ∙ all_found tables n t c.args.jobs.now within c.requires.jobs in
-    made_more (slot_totals tables) t c.loop-t.totals.items c.push_value.new.values.items _ c.loop-t.invariant c.in_ok-push_value.ensures
+    made_more (slot_totals tables) t c.loop-t.totals.items c.push_value.new.values.items _ c.loop-t.invariant
+    c.in_ok-push_value.ensures
     (totals_there tables t c.heard_by-heard.result (get_or c.args.counts.now t no_counts) counted heard)

@@ -5,4 +5,5 @@ use Rattle.pdcch_app.proofs.commands.explain_text.Goals as goal
 
 pub explain_named-requires-clause-number : goal.explain_named-requires-clause-number
 explain_named-requires-clause-number c =
-    subst (λ (text : List ℕ). is_number text ≡ true) (sym c.value-word.ensures) (asks_both c.args.words.now c.requires.words).number
+    subst (λ (text : List ℕ). is_number text ≡ true) (sym c.value-word.ensures)
+    (asks_both c.args.words.now c.requires.words).number

@@ -9,4 +9,5 @@ returns-in_err-handset c =
 
 pub returns : goal.returns
 returns c =
-    ends_named c.args.cell.now c.args.tables.now c.args.grid.now c.args.name.now c.in_ok-handset.handset c.report_of.result c.in_ok-handset.ensures.read c.report_of.ensures
+    ends_named c.args.cell.now c.args.tables.now c.args.grid.now c.args.name.now c.in_ok-handset.handset c.report_of.result
+    c.in_ok-handset.ensures.read c.report_of.ensures

@@ -5,4 +5,5 @@ use Rattle.pdcch_app.proofs.searching.report_of.Given as goal
 
 -- the handsets before this one were reported
 abbrev pub invariant-loop-handset : goal.invariant-loop-handset
-invariant-loop-handset l = AreReported l.cell l.tables l.grid (take (l.handset - l.first) (range_with_len l.first (l.end - l.first))) l.text.items
+invariant-loop-handset l =
+    AreReported l.cell l.tables l.grid (take (l.handset - l.first) (range_with_len l.first (l.end - l.first))) l.text.items

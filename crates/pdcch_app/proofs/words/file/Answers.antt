@@ -12,11 +12,14 @@ overflow_add-numbers_before c =
 pub unreachable-requires : goal.unreachable-requires
 unreachable-requires c =
     let there = file_there c.args.command c.args.words.now c.args.place c.requires in
-    let at : c.numbers_before.result + c.from.result ≡ numbers_before c.args.command + c.args.place = omega (arith, c.numbers_before.ensures, c.from.ensures) in
+    let at : c.numbers_before.result + c.from.result ≡ numbers_before c.args.command + c.args.place =
+    omega (arith, c.numbers_before.ensures, c.from.ensures) in
     let never = sym there ∙ ap (slice_get (texts_under None (arguments c.args.words.now))) (sym at) ∙ c.in-None.ensures in
     cc
 
 pub returns : goal.returns
 returns c =
-    let at : c.numbers_before.result + c.from.result ≡ numbers_before c.args.command + c.args.place = omega (arith, c.numbers_before.ensures, c.from.ensures) in
-    file_is c.args.command c.args.words.now c.args.place c.in-Some.word.now (ap (slice_get (texts_under None (arguments c.args.words.now))) (sym at) ∙ c.in-Some.ensures)
+    let at : c.numbers_before.result + c.from.result ≡ numbers_before c.args.command + c.args.place =
+    omega (arith, c.numbers_before.ensures, c.from.ensures) in
+    file_is c.args.command c.args.words.now c.args.place c.in-Some.word.now
+    (ap (slice_get (texts_under None (arguments c.args.words.now))) (sym at) ∙ c.in-Some.ensures)

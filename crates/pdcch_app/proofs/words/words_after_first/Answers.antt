@@ -10,5 +10,6 @@ pub returns : goal.returns
 returns c =
     items_from_collect c.collect.result c.collect.ensures.ran
     (YieldsList-from_skip 1
-    (YieldsList-from_vec {s = skip_source c.skip.result} (into_iter_items c.args.all) (ap into_iter_items c.skip.ensures.source) (ap into_iter_len c.skip.ensures.source ∙ c.args.all.rest.ok.0))
+    (YieldsList-from_vec {s = skip_source c.skip.result} (into_iter_items c.args.all)
+    (ap into_iter_items c.skip.ensures.source) (ap into_iter_len c.skip.ensures.source ∙ c.args.all.rest.ok.0))
     c.skip.ensures.count)

@@ -19,9 +19,11 @@ bounds-as_slice-from c =
 pub returns : goal.returns
 returns c =
     let r = c.index-as_slice-from.result in
-    let P : List ℕ → Type 0 = λ name. IsStop (refused SlotRefused (slot_line name c.args.candidates c.args.cces)) c.slot_refused.result in
+    let P : List ℕ → Type 0 = λ name. IsStop (refused SlotRefused (slot_line name c.args.candidates c.args.cces))
+    c.slot_refused.result in
     let Q : ℕ → Type 0 = λ h. h < length c.args.cell.now.handsets in
     subst P
-    (name_of c.args.cell.now c.as_slice.result.now c.from.result r (c.as_slice.ensures ∙ ap (λ (raw : RawCell). raw.handsets) c.raw.ensures.value) (subst Q (sym c.from.ensures) c.requires)
+    (name_of c.args.cell.now c.as_slice.result.now c.from.result r
+    (c.as_slice.ensures ∙ ap (λ (raw : RawCell). raw.handsets) c.raw.ensures.value) (subst Q (sym c.from.ensures) c.requires)
     ∙ ap (λ (h : ℕ). (handset_at c.args.cell.now h).name) c.from.ensures)
     c.slot_refused.ensures

@@ -8,7 +8,8 @@ use Rattle.pdcch_app.proofs.writing.place_all.Goals as goal
 pub append_refusal-requires : goal.append_refusal-requires
 append_refusal-requires c =
     let grant = c.index-grants-number.result in
-    let read : IsReadGrant grant = subst IsReadGrant (sym c.index-grants-number.is) (c.requires.grants c.loop-number.number grant c.loop-number-test.true) in
+    let read : IsReadGrant grant = subst IsReadGrant (sym c.index-grants-number.is)
+    (c.requires.grants c.loop-number.number grant c.loop-number-test.true) in
     named_from_fate c.loop-number.desk.ledger grant c.in-Err.refusal read.fields.in_place (sym c.in-Err.ensures.fate)
 
 pub loop-number-preserved : goal.loop-number-preserved
@@ -17,16 +18,21 @@ loop-number-preserved c =
     let grant = c.index-grants-number.result in
     elim c.match-place.branch [
       | in-Ok w ↦
-          placed_one c.args.tables.now c.args.grants.now c.args.desk.now l.desk c.place.new.self c.args.lines.now.items l.lines.items c.match-place.lines.items l.all_placed
-          c.match-place.all_placed l.number grant w.in-Ok.field-0 c.loop-number-test.true c.index-grants-number.is l.invariant w.in-Ok.ensures.fate c.place.ensures.step
+          placed_one c.args.tables.now c.args.grants.now c.args.desk.now l.desk c.place.new.self c.args.lines.now.items
+          l.lines.items c.match-place.lines.items l.all_placed
+          c.match-place.all_placed l.number grant w.in-Ok.field-0 c.loop-number-test.true c.index-grants-number.is
+          l.invariant w.in-Ok.ensures.fate c.place.ensures.step
           (ap (λ (v : Vec ℕ Global). v.items) w.lines-is) w.all_placed-is
       | in-Err+in_ok-append_refusal-in-Err w ↦
-          refused_one c.args.tables.now c.args.grants.now c.args.desk.now l.desk c.place.new.self c.args.lines.now.items l.lines.items c.match-place.lines.items l.all_placed
-          c.match-place.all_placed l.number grant w.in-Err.refusal c.loop-number-test.true c.index-grants-number.is l.invariant w.in-Err.ensures.fate c.place.ensures.step
+          refused_one c.args.tables.now c.args.grants.now c.args.desk.now l.desk c.place.new.self c.args.lines.now.items
+          l.lines.items c.match-place.lines.items l.all_placed
+          c.match-place.all_placed l.number grant w.in-Err.refusal c.loop-number-test.true c.index-grants-number.is
+          l.invariant w.in-Err.ensures.fate c.place.ensures.step
           (ap (λ (v : Vec ℕ Global). v.items) w.lines-is ∙ w.in_ok-append_refusal-in-Err.ensures.whole) w.all_placed-is
     ]
 
 pub returns : goal.returns
 returns c =
-    all_placed c.args.tables.now c.args.grants.now c.args.desk.now c.loop-number.desk c.args.lines.now.items c.loop-number.lines.items c.loop-number.all_placed
+    all_placed c.args.tables.now c.args.grants.now c.args.desk.now c.loop-number.desk c.args.lines.now.items
+    c.loop-number.lines.items c.loop-number.all_placed
     c.loop-number.number c.loop-number-test.false c.loop-number.invariant

@@ -3,4 +3,5 @@ use Rattle.pdcch_app.proofs.writing.place_all.Given as goal
 
 -- the grants before this one were placed
 abbrev pub invariant-loop-number : goal.invariant-loop-number
-invariant-loop-number l = Underway l.tables l.grants l.initial.desk l.desk l.initial.lines.items l.lines.items l.all_placed l.number
+invariant-loop-number l =
+    Underway l.tables l.grants l.initial.desk l.desk l.initial.lines.items l.lines.items l.all_placed l.number

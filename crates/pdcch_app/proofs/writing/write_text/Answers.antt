@@ -30,9 +30,13 @@ returns-in-Err c = fault_ends c.args.cell.now c.args.tables.now c.args.list.now 
 
 pub returns : goal.returns
 returns c =
-    let P : List Grant → Type 0 = λ gs. opened c.args.cell.now c.args.list.now.frame c.args.list.now.slot (length gs) ≡ Ok c.in-Ok.desk in
-    let Q : List Grant → Type 0 = λ gs. ArePlaced c.args.tables.now gs c.in-Ok.desk c.place_all.new.desk c.new-lines.result.items c.place_all.new.lines.items c.in_ok-all_placed.all_placed in
-    write_done c.args.cell.now c.args.tables.now c.args.list.now c.in-Ok.desk c.place_all.new.desk c.new-lines.result.items c.place_all.new.lines.items
+    let P : List Grant → Type 0 = λ gs. opened c.args.cell.now c.args.list.now.frame c.args.list.now.slot (length gs)
+    ≡ Ok c.in-Ok.desk in
+    let Q : List Grant → Type 0 = λ gs. ArePlaced c.args.tables.now gs c.in-Ok.desk c.place_all.new.desk
+    c.new-lines.result.items c.place_all.new.lines.items c.in_ok-all_placed.all_placed in
+    write_done c.args.cell.now c.args.tables.now c.args.list.now c.in-Ok.desk c.place_all.new.desk c.new-lines.result.items
+    c.place_all.new.lines.items
     c.in_ok-text.text.items c.in_ok-all_placed.all_placed c.status_by.result c.new.result
-    (subst P c.as_slice-grants.ensures c.in-Ok.ensures.opened) (subst Q c.as_slice-grants.ensures c.in_ok-all_placed.ensures) c.new-lines.ensures.items
+    (subst P c.as_slice-grants.ensures c.in-Ok.ensures.opened)
+    (subst Q c.as_slice-grants.ensures c.in_ok-all_placed.ensures) c.new-lines.ensures.items
     (c.in_ok-text.ensures ∙ ap grid_text c.grid.ensures.value) c.status_by.ensures c.new.ensures

@@ -8,12 +8,14 @@ pub returns-in_err-push_watch : goal.returns-in_err-push_watch
 unfolding watch_line
 returns-in_err-push_watch c =
     appends_middle c.from_residual-in_err-push_watch.result (watch_start c.args.number) (10 ∷ [])
-    c.from_residual-in_err-push_watch.ensures.0 c.in_ok-push_watch_start.ensures.whole c.in_err-push_watch.ensures.prefix (simp append_assoc)
+    c.from_residual-in_err-push_watch.ensures.0 c.in_ok-push_watch_start.ensures.whole c.in_err-push_watch.ensures.prefix
+    (simp append_assoc)
 
 pub returns : goal.returns
 unfolding watch_line
 returns c =
     let start = watch_start c.args.number in
     let watch = watch_text c.args.watch.now in
-    appends_last (start ++ watch) (appended_twice c.args.out.now.items start watch c.in_ok-push_watch_start.ensures.whole c.in_ok-push_watch.ensures.whole)
+    appends_last (start ++ watch)
+    (appended_twice c.args.out.now.items start watch c.in_ok-push_watch_start.ensures.whole c.in_ok-push_watch.ensures.whole)
     c.push_text.ensures refl

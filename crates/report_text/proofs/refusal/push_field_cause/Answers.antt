@@ -12,4 +12,5 @@ returns-in-Unknown c =
 pub returns-in-TooLarge : goal.returns-in-TooLarge
 returns-in-TooLarge c =
     appends_same c.push_pieces-in-TooLarge.ensures
-    (ap (field_cause c.args.grant.now) c.in-TooLarge.is ∙ simp (append_assoc, append-nil, c.word_at-in-TooLarge.ensures, c.value_at.ensures, c.from.ensures))
+    (ap (field_cause c.args.grant.now) c.in-TooLarge.is
+    ∙ simp (append_assoc, append-nil, c.word_at-in-TooLarge.ensures, c.value_at.ensures, c.from.ensures))

@@ -5,7 +5,9 @@ use Rattle.cell_placer.proofs.desk.Desk.place.Goals as goal
 
 pub invariant_of-self : goal.invariant_of-self
 invariant_of-self c = record {
-  ledger = subst IsLedger (sym c.accept.ensures) (ledger_after c.self.inside.ledger c.in-Ok.entry c.in-Ok.ensures.ready.spot.call c.self.invariant.ledger);
+  ledger =
+      subst IsLedger (sym c.accept.ensures)
+      (ledger_after c.self.inside.ledger c.in-Ok.entry c.in-Ok.ensures.ready.spot.call c.self.invariant.ledger);
   blocks = ap (λ (l : LedgerValue). l.blocks) c.accept.ensures ∙ c.self.invariant.blocks ∙ sym c.write.ensures.blocks;
 }
 

@@ -13,17 +13,21 @@ invariant_of-self c =
     let a = c.args.entry in
     let kept = c.self.invariant in
     let spot : IsSpot l a = subst (λ (v : LedgerValue). IsSpot v a) (sym c.self.view_is) c.requires.spot in
-    let w = watch_is l.members a c.index.result.now c.watches.result.now c.index-watches-entry.result spot.handset spot.watch c.index.ensures c.watches.ensures.value c.index-watches-entry.is in
-    let P : List Accepted → Type 0 = λ x. IsLedger (record { blocks = l.blocks; members = l.members; room = l.room; calls = l.calls + 1; accepted = x }) in
+    let w = watch_is l.members a c.index.result.now c.watches.result.now c.index-watches-entry.result spot.handset
+    spot.watch c.index.ensures c.watches.ensures.value c.index-watches-entry.is in
+    let P : List Accepted → Type 0 =
+    λ x. IsLedger (record { blocks = l.blocks; members = l.members; room = l.room; calls = l.calls + 1; accepted = x }) in
     let Q : List Accepted → Type 0 = λ x. AreOwners l.blocks l.members x c.own.new.owners in
     let owners = c.self.inside.owners in
     let after : AreOwners l.blocks l.members (l.accepted ++ a ∷ []) c.own.new.owners =
-    owners_after l a c.index-watches-entry.result c.as_slice.result.now owners.items c.deref_mut.result.now c.own.new.owners spot kept.owners w c.as_slice.ensures.value c.deref_mut.ensures.value c.own.ensures in
+    owners_after l a c.index-watches-entry.result c.as_slice.result.now owners.items c.deref_mut.result.now c.own.new.owners
+    spot kept.owners w c.as_slice.ensures.value c.deref_mut.ensures.value c.own.ensures in
     let size : length c.own.new.owners ≡ owners.len = after.size ∙ sym kept.owners.size ∙ sym owners.ok.0 in
     let R : List (Option ℕ) → Type 0 = λ x. AreOwners l.blocks l.members c.push.new.self.items x in
     record {
       ledger = subst P (sym c.in-Ok.ensures.items) (ledger_after l a spot.call kept.ledger);
       owners =
-          subst R (sym (written_back owners.len c.own.new.owners (drop (length c.own.new.owners) owners.items) size)) (subst Q (sym c.in-Ok.ensures.items) after);
+          subst R (sym (written_back owners.len c.own.new.owners (drop (length c.own.new.owners) owners.items) size))
+          (subst Q (sym c.in-Ok.ensures.items) after);
       memory = omega (arith, c.in-Ok.ensures.capacity, kept.memory);
     }

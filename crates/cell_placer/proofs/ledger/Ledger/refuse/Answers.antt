@@ -1,4 +1,4 @@
-use Rattle.cell_placer.proofs.Calls.{calls-more}
+use Rattle.cell_placer.proofs.Calls.{calls_more}
 use Rattle.cell_placer.proofs.ledger.Ledger.refuse.Goals as goal
 
 pub invariant_of-self : goal.invariant_of-self
@@ -7,7 +7,7 @@ invariant_of-self c =
     record {
       ledger = record {
         members = kept.ledger.members;
-        calls = calls-more 0 c.self.inside.calls c.self.inside.accepted.items kept.ledger.calls;
+        calls = calls_more 0 c.self.inside.calls c.self.inside.accepted.items kept.ledger.calls;
       };
       owners = kept.owners;
       memory = kept.memory;
