@@ -13,7 +13,7 @@ mod cells;
 #[cfg(test)]
 mod large;
 #[cfg(test)]
-mod of_alloc_fields;
+mod large_settings;
 #[cfg(test)]
 mod of_blind_search;
 #[cfg(test)]
@@ -29,23 +29,13 @@ mod of_dci_fields;
 #[cfg(test)]
 mod of_dmrs_qpsk;
 #[cfg(test)]
-mod of_gold_scrambler;
-#[cfg(test)]
-mod of_grant_file;
-#[cfg(test)]
-mod of_grid_file;
-#[cfg(test)]
 mod of_monitor_budget;
 #[cfg(test)]
 mod of_monitor_plan;
 #[cfg(test)]
-mod of_outside;
-#[cfg(test)]
 mod of_par_sweep;
 #[cfg(test)]
 mod of_polar_chain;
-#[cfg(test)]
-mod of_polar_kernel;
 #[cfg(test)]
 mod of_polar_sets;
 #[cfg(test)]
@@ -53,18 +43,8 @@ mod of_rate_match;
 #[cfg(test)]
 mod of_report_text;
 #[cfg(test)]
-mod of_rrc_settings;
-#[cfg(test)]
 mod of_search_starts;
-#[cfg(test)]
-mod of_settings_json;
 #[cfg(test)]
 mod of_size_alignment;
 #[cfg(test)]
-mod of_slot_grid;
-#[cfg(test)]
-mod of_table_files;
-#[cfg(test)]
 mod tables;
-#[cfg(test)]
-mod words;

@@ -135,14 +135,10 @@ fn two_levels_begin_at_the_first_cce(rt: HostRuntime) -> Result<(), Fail> {
 
 /// Watch i of the large plan: each set has eight watches in each of the 14 symbols.
 fn is_large_line(watch: &Watch, i: usize) -> bool {
-    let line = (
-        (i / 112 + 1) as u16,
-        (i % 112 / 8) as u8,
-        1,
-        (i % 8) as u8,
-        39,
-        500,
-    );
+    let Ok(set) = u16::try_from(i / 112 + 1) else {
+        return false;
+    };
+    let line = (set, (i % 112 / 8) as u8, 1, (i % 8) as u8, 39, 500);
     watch.rnti == 1 && is_watch(watch, &line)
 }
 

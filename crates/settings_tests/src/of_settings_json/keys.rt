@@ -181,20 +181,44 @@ const OBJECTS_FURTHER: [Keys; 7] = [
 ];
 
 /// Keys that an object does not have.
-const UNKNOWN: [(&str, &str); 13] = [
-    ("", "colour"),
-    ("handsets/0", "colour"),
-    ("handsets/0", "interleave"),
-    ("handsets/0/downlink", "number"),
-    ("handsets/0/uplink", "Start"),
-    ("handsets/0/coresets/0", ""),
-    ("handsets/0/coresets/0/interleave", "period"),
-    ("handsets/0/coresets/1", "base"),
-    ("handsets/0/sets/1", "groups"),
-    ("handsets/0/uplink_fields", "flush"),
-    ("handsets/0/downlink_fields", "beta"),
-    ("handsets/1", "mu"),
-    ("handsets/1/sets/0", "kinds"),
+const UNKNOWN: [(&str, &str, &str); 13] = [
+    ("", "colour", "file: unknown"),
+    ("handsets/0", "colour", "handsets/0: unknown"),
+    ("handsets/0", "interleave", "handsets/0: unknown"),
+    (
+        "handsets/0/downlink",
+        "number",
+        "handsets/0/downlink: unknown",
+    ),
+    ("handsets/0/uplink", "Start", "handsets/0/uplink: unknown"),
+    (
+        "handsets/0/coresets/0",
+        "",
+        "handsets/0/coresets/0: unknown",
+    ),
+    (
+        "handsets/0/coresets/0/interleave",
+        "period",
+        "handsets/0/coresets/0/interleave: unknown",
+    ),
+    (
+        "handsets/0/coresets/1",
+        "base",
+        "handsets/0/coresets/1: unknown",
+    ),
+    ("handsets/0/sets/1", "groups", "handsets/0/sets/1: unknown"),
+    (
+        "handsets/0/uplink_fields",
+        "flush",
+        "handsets/0/uplink_fields: unknown",
+    ),
+    (
+        "handsets/0/downlink_fields",
+        "beta",
+        "handsets/0/downlink_fields: unknown",
+    ),
+    ("handsets/1", "mu", "handsets/1: unknown"),
+    ("handsets/1/sets/0", "kinds", "handsets/1/sets/0: unknown"),
 ];
 
 /// Values that are no whole numbers.
@@ -551,11 +575,9 @@ fn unknown_keys(rt: HostRuntime) -> Result<(), Fail> {
         "downlink_fields",
         "null",
     )?;
-    for (object, key) in UNKNOWN {
+    for (object, key, fault) in UNKNOWN {
         let edited = with_member(alloc, last.as_slice(), object, key, "1")?;
-        let place = if object.is_empty() { "file" } else { object };
-        let fault = format!(in alloc; "{place}: unknown")?;
-        check(&rt, alloc, edited.as_slice(), fault.as_str(), key)?;
+        check(&rt, alloc, edited.as_slice(), fault, key)?;
     }
     Ok(())
 }

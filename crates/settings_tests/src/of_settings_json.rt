@@ -6,7 +6,6 @@ mod json;
 mod keys;
 mod order;
 
-use crate::large::{large_cell, large_settings};
 use crate::words::words_of;
 use arrayvec::ArrayVec;
 use rrc_settings::{
@@ -135,13 +134,5 @@ fn names_the_first_fault(rt: HostRuntime) -> Result<(), Fail> {
         let found = refusal_after(rt.alloc(), SETTINGS, old, new)?;
         assert_eq!(rt; found.as_str(), fault);
     }
-    Ok(())
-}
-
-#[test]
-fn reads_64_handsets(rt: HostRuntime) -> Result<(), Fail> {
-    let text = large_settings(rt.alloc(), 64)?;
-    let cell = read_settings(rt.alloc(), text.as_bytes())?;
-    assert!(rt; *cell.raw() == large_cell(rt.alloc(), 64)?);
     Ok(())
 }
