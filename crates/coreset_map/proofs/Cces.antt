@@ -62,9 +62,6 @@ six : {A : Type 0} (a b c d e f a' b' c' d' e' f' : A) → a ≡ a' → b ≡ b'
     → a ∷ b ∷ c ∷ d ∷ e ∷ f ∷ [] ≡ a' ∷ b' ∷ c' ∷ d' ∷ e' ∷ f' ∷ []
 six a b c d e f a' b' c' d' e' f' p q r s t u = cc
 
-number_is : (f : ℕ → ℕ) (g : ℕ → Reg) (size a b m r : ℕ) → a ≡ b → m ≡ r → g (f a * size + m) ≡ g (f b * size + r)
-number_is f g size a b m r e k = let h = ap (λ x. f x * size) e in ap g (omega (arith, h, k))
-
 -- the REGs of a CCE's bundles of a size, for an interleaver f and REGs g by number
 abbrev by_bundles : (ℕ → ℕ) → (ℕ → Reg) → ℕ → ℕ → List Reg
 by_bundles f g j size = flat_map (λ k. map g (range_with_len (f (6 * j / size + k) * size) size)) (range_with_len 0 (6 / size))

@@ -38,9 +38,11 @@ spot_in symbol subcarrier = record { symbol = symbol; subcarrier = subcarrier }
 abbrev pub spot_of : Reg → ℕ → Spot
 spot_of reg d = spot_in reg.symbol (12 * reg.block + d + (d + 2) / 3)
 
+-- the nine data places of a REG
 abbrev pub nine_of : Reg → List Spot
 nine_of reg = map (spot_of reg) (range_with_len 0 9)
 
+-- those of some REGs, one REG after the other
 abbrev pub nine_each : List Reg → List Spot
 nine_each regs = flat_map nine_of regs
 

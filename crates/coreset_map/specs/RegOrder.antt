@@ -1,5 +1,5 @@
 -- REGs in the order of their symbols, and in a symbol of their blocks.
-use Rattle.std.specs.Prelude.{◌≡◌, ℕ, ◌<◌, ◌≤◌, Bool, ◌&&◌, ◌==◌, List, length, slice_index_or}
+use Rattle.std.specs.Prelude.{◌≡◌, ℕ, ◌+◌, ◌<◌, ◌≤◌, Bool, ◌&&◌, ◌==◌, List, length, slice_index_or}
 use Rattle.coreset_map.specs.declared.places.Reg.{Reg}
 
 -- REG j of a list
@@ -22,6 +22,11 @@ AreRegs regs = (i j : ℕ) → i < j → j < length regs → Precedes (reg_at re
 abbrev pub AreWithin : ℕ → ℕ → List Reg → Type 0
 AreWithin symbols blocks regs =
     (j : ℕ) → j < length regs → ((reg_at regs j).symbol < symbols) × ((reg_at regs j).block < blocks)
+
+-- each REG of a list that begins in symbol `first` is in the slot, and in a block below a number of blocks
+abbrev pub AreInside : ℕ → ℕ → List Reg → Type 0
+AreInside first blocks regs =
+    (j : ℕ) → j < length regs → (first + (reg_at regs j).symbol < 14) × ((reg_at regs j).block < blocks)
 
 -- each REG of a list is in a block below a number of blocks
 abbrev pub AreBlocksBelow : ℕ → List Reg → Type 0

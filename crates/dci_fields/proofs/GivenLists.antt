@@ -57,6 +57,18 @@ holds_at : {X : Type 0} (p : X → Bool) (xs : List X) (k : ℕ) (d : X) → lis
     → p (get_or xs k d) ≡ true
 holds_at p xs k d h within = All-get_or (λ x. p x ≡ true) xs k d within (AllPass-from_list_all p xs h)
 
+-- no later row has the name of the first
+differs_from_first : (r : FieldRow) (rs : List FieldRow) (k : ℕ) (d : FieldRow) → are_apart (r ∷ rs) ≡ true → k < length rs
+    → same_name r.name (get_or rs k d).name ≡ false
+differs_from_first r rs k d apart within =
+    let differs : FieldRow → Bool = λ other. not (same_name r.name other.name) in
+    not-true (same_name r.name (get_or rs k d).name)
+    (holds_at differs rs k d (and_parts (list_all differs rs) (are_apart rs) apart).0 within)
+
+-- the rows after the first are apart too
+rest_apart : (r : FieldRow) (rs : List FieldRow) → are_apart (r ∷ rs) ≡ true → are_apart rs ≡ true
+rest_apart r rs apart = (and_parts (list_all (λ (other : FieldRow). not (same_name r.name other.name)) rs) (are_apart rs) apart).1
+
 -- the width of a row that is not fixed, by its name
 pub open_width-at : (rows : List FieldRow) (format : Format) (k : ℕ) (d : FieldRow) → are_apart rows ≡ true → k < length rows
     → is_fixed (get_or rows k d).name format ≡ false
@@ -72,14 +84,11 @@ open_width-at (r ∷ rs) format (suc k) d apart within free =
     let here : FieldRow = get_or rs k d in
     let width : FieldRow → ℕ = λ x. x.width in
     let test : FieldRow → Bool = λ x. same_name x.name here.name && not (is_fixed x.name format) in
-    let parts = and_parts (list_all (λ (other : FieldRow). not (same_name r.name other.name)) rs) (are_apart rs) apart in
     let below : k < length rs = omega arith in
-    let differs : same_name r.name here.name
-    ≡ false =
-    not-true (same_name r.name here.name)
-    (holds_at (λ (other : FieldRow). not (same_name r.name other.name)) rs k d parts.0 below) in
-    let fails : test r ≡ false = ap (λ (b : Bool). b && not (is_fixed r.name format)) differs in
-    ap (λ (b : Bool). option_map width (cond b (Some r) (find test rs))) fails ∙ open_width-at rs format k d parts.1 below free
+    let fails : test r ≡ false =
+    ap (λ (b : Bool). b && not (is_fixed r.name format)) (differs_from_first r rs k d apart below) in
+    ap (λ (b : Bool). option_map width (cond b (Some r) (find test rs))) fails
+    ∙ open_width-at rs format k d (rest_apart r rs apart) below free
 
 -- what holds of a value that stood before and of each entry with the name holds of the last value
 last_keeps : (P : ℕ → Type 0) (name : FieldName) (before : Option ℕ) (given : List Given) → P (unwrap_or before 0)
@@ -131,14 +140,8 @@ identifier_width [] k d begins apart within is = absurd begins
 identifier_width (r ∷ rs) zero d begins apart within is = begins.1
 identifier_width (r ∷ rs) (suc k) d begins apart within is =
     let here : FieldRow = get_or rs k d in
-    let parts = and_parts (list_all (λ (other : FieldRow). not (same_name r.name other.name)) rs) (are_apart rs) apart in
-    let below : k < length rs = omega arith in
-    let differs : same_name r.name here.name
-    ≡ false =
-    not-true (same_name r.name here.name)
-    (holds_at (λ (other : FieldRow). not (same_name r.name other.name)) rs k d parts.0 below) in
     let same : same_name r.name here.name ≡ true = same_named r.name here.name (begins.0 ∙ sym is) in
-    absurd (true_not_false (same_name r.name here.name) same differs)
+    absurd (true_not_false (same_name r.name here.name) same (differs_from_first r rs k d apart (omega arith)))
 
 identifier_of_le : (format : Format) → identifier_of format ≤ 1
 identifier_of_le F00 = omega arith

@@ -1,8 +1,7 @@
 -- What a word names: the one whose word it is.
-use Rattle.std.proofs.Common.{◌≡◌, ◌≢◌, ◌↔◌, ℕ, suc, Option, Some, None, Bool, true, false, bytes_eq, ◌&&◌, cond, List, [], ◌∷◌}
-use Rattle.std.proofs.Common.{◌+◌, ◌<◌, ◌≤◌, length, get_or, drop, drop-cons, add-one, refl, ap, sym, ◌∙◌, subst}
+use Rattle.std.proofs.Common.{◌≡◌, ◌≢◌, ◌↔◌, ℕ, Option, Some, Bool, true, false, bytes_eq, ◌&&◌, cond, List, [], ◌∷◌}
+use Rattle.std.proofs.Common.{refl, ap, sym, ◌∙◌, subst}
 use Rattle.std.specs.List.{list_all, find}
-use Rattle.std.proofs.lemmas.List.{drop_all}
 use Rattle.std.proofs.lemmas.Slice.Eq.{bytes_eq-Decides}
 use Rattle.dci_fields.specs.declared.formats.Format.{Format}
 use Rattle.dci_fields.specs.declared.formats.Format.TheVariants as formats
@@ -12,24 +11,6 @@ use Rattle.dci_fields.specs.declared.names.FieldName.TheVariants as names
 use Rattle.dci_fields.specs.declared.names.TheConstants.{NAMES}
 use Rattle.dci_fields.specs.Formats.{format_word, format_named}
 use Rattle.dci_fields.specs.Words.{word_of, field_named, IsWordOf}
-
--- an element that passes is the first that does from its place on
-pub found_here : {X : Type 0} (p : X → Bool) (xs : List X) (k : ℕ) (d : X) → k < length xs → p (get_or xs k d) ≡ true
-    → find p (drop k xs) ≡ Some (get_or xs k d)
-found_here p xs k d h e =
-    ap (find p) (drop-cons xs k d h) ∙ ap (λ (b : Bool). cond b (Some (get_or xs k d)) (find p (drop (suc k) xs))) e
-
--- after an element that does not pass, the search goes on
-pub found_after : {X : Type 0} (p : X → Bool) (xs : List X) (k : ℕ) (d : X) → k < length xs → p (get_or xs k d) ≡ false
-    → find p (drop k xs) ≡ find p (drop (k + 1) xs)
-found_after p xs k d h e =
-    ap (find p) (drop-cons xs k d h)
-    ∙ ap (λ (b : Bool). cond b (Some (get_or xs k d)) (find p (drop (suc k) xs))) e
-    ∙ ap (λ (n : ℕ). find p (drop n xs)) (sym (add-one k))
-
--- past the end nothing is found
-pub found_no_more : {X : Type 0} (p : X → Bool) (xs : List X) (k : ℕ) → length xs ≤ k → find p (drop k xs) ≡ None
-found_no_more p xs k h = ap (find p) (drop_all k xs h)
 
 -- what is the first, or found later, so passes
 found_first : {X : Type 0} (p q : X → Bool) (x y : X) (b c d : Bool) (found : Option X) → p x ≡ b → q x ≡ c → (c && d) ≡ true

@@ -1,5 +1,5 @@
 //! The formats of downlink control information.
-ghost use Rattle.std.specs.Prelude.{◌≡◌, ◌↔◌, Some};
+ghost use Rattle.std.specs.Prelude.{◌≡◌, ◌↔◌, Some, bytes_eq};
 ghost use Rattle.dci_fields.specs.declared.formats.Format.{Format};
 ghost use Rattle.dci_fields.specs.Formats.{format_word, format_named, identifier_of};
 
@@ -71,10 +71,12 @@ pub fn format_of(word: &[u8]) -> Option<Format>
     ensures named { result ≡ format_named word.now }
     ensures exactly { (format : Format) → (result ≡ Some format) ↔ (format_word format ≡ word.now) }
 {
-    for format in &FORMATS {
-        if format.word() == word {
-            return Some(*format);
-        }
-    }
-    None
+    FORMATS
+        .iter()
+        .find(
+            |format|
+                ensures { result ≡ bytes_eq (format_word format.now.now) word.entry.now }
+            { format.word() == word },
+        )
+        .copied()
 }

@@ -1,5 +1,6 @@
 //! The names of the fields.
-ghost use Rattle.std.specs.Prelude.{◌≡◌, ◌↔◌, Some};
+ghost use Rattle.std.specs.Prelude.{◌≡◌, ◌↔◌, Some, bytes_eq, option_copied};
+ghost use Rattle.std.specs.List.{find};
 ghost use Rattle.dci_fields.specs.declared.names.FieldName.{FieldName};
 ghost use Rattle.dci_fields.specs.Words.{word_of, field_named, IsWordOf};
 
@@ -179,10 +180,19 @@ pub fn name_of(word: &[u8]) -> Option<FieldName>
     ensures named { result ≡ field_named word.now }
     ensures exactly { (name : FieldName) → (result ≡ Some name) ↔ IsWordOf name word.now }
 {
-    for name in &NAMES {
-        if name.word() == word {
-            return Some(*name);
-        }
-    }
-    None
+    name_among(&NAMES, word).copied()
+}
+
+/// The first of some names that has this word.
+fn name_among<'a>(names: &'a [FieldName], word: &[u8]) -> Option<&'a FieldName>
+    ensures { option_copied result ≡ find (λ name. bytes_eq (word_of name) word.now) names.now }
+{
+    names.iter().find(|name| has_word(name, word))
+}
+
+/// Whether a name has this word.
+fn has_word(name: &FieldName, word: &[u8]) -> bool
+    ensures { result ≡ bytes_eq (word_of name.now) word.now }
+{
+    name.word() == word
 }

@@ -28,11 +28,11 @@ pub fn pack(
         (result ≡ Err fault) ↔ IsFieldFault list.now format given.now fault }
     ensures size_is { IfOk result (λ payload. length payload ≡ size) }
 {
-    pack_rows(list.rows(), format, given, size)
+    pack_core(list.rows(), format, given, size)
 }
 
 /// The same for rows.
-fn pack_rows(
+fn pack_core(
     rows: &[FieldRow],
     format: Format,
     given: &[Given],

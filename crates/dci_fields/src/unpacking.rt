@@ -18,11 +18,11 @@ pub fn unpack(list: &FieldList, format: Format, payload: &Payload) -> Option<Val
     ensures { (fields : List FieldValue) →
         (result ≡ Some fields) ↔ Carries list.now format (length payload.now) payload.now fields }
 {
-    unpack_rows(list.rows(), width_of(list), format, payload)
+    unpack_core(list.rows(), width_of(list), format, payload)
 }
 
 /// The same for rows of `width` bits in all.
-fn unpack_rows(rows: &[FieldRow], width: usize, format: Format, payload: &Payload) -> Option<Values>
+fn unpack_core(rows: &[FieldRow], width: usize, format: Format, payload: &Payload) -> Option<Values>
     requires few { length rows.now ≤ 32 }
     requires narrow { AreNarrow rows.now }
     requires width { width ≡ width_of rows.now }

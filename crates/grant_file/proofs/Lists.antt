@@ -1,7 +1,6 @@
 -- What follows of the fields of a grant from the object that gives them.
-use Rattle.std.proofs.Common.{◌≡◌, suc, List, [], ◌∷◌, ◌++◌, All, length, map, String, Global, Less, string_bytes}
-use Rattle.std.proofs.Common.{nat_cmp, slice_index_or, refl, ap, sym, subst, arith}
-use Rattle.std.proofs.lemmas.List.Elements.{All-append}
+use Rattle.std.proofs.Common.{◌≡◌, suc, List, [], ◌∷◌, length, map, String, Global, Less, string_bytes}
+use Rattle.std.proofs.Common.{nat_cmp, refl, ap}
 use Rattle.std.specs.Cmp.Lexicographic.{slice_cmp}
 use Rattle.std.specs.List.{AllByRecursion}
 use Rattle.std.specs.List.Sorted.{IsStrictlySortedBy}
@@ -45,11 +44,3 @@ read_fields ms h = record { ascending = h; in_place = in_place ms; named = named
 pub read_no_fields : IsReadFields [] []
 unfolding IsStrictlySortedBy
 read_no_fields = record { ascending = tt; in_place = refl; named = refl }
-
--- what holds of the one element
-all_one : {T : Type 0} (P : T → Type 0) (x : T) → P x → All P (x ∷ [])
-all_one P x p k d h = let first : k ≡ 0 = omega arith in subst (λ j. P (slice_index_or (x ∷ []) j d)) (sym first) p
-
--- what holds of each element and of one more
-pub all_and_one : {T : Type 0} (P : T → Type 0) (xs : List T) (x : T) → All P xs → P x → All P (xs ++ x ∷ [])
-all_and_one P xs x h p = All-append P xs (x ∷ []) h (all_one P x p)

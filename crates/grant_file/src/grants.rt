@@ -18,7 +18,7 @@ pub struct Grant {
     pub symbol: Option<u16>,
     /// The format.
     pub format: Format,
-    /// The values of fields, in ascending order of their words.
+    /// The values of fields; a grant that was read has them in ascending order of their words.
     pub given: Items<Given>,
     /// The words of these fields, in the same places.
     pub words: Items<FieldWord>,

@@ -1,7 +1,7 @@
 -- The elements of a list of values.
 use Rattle.std.proofs.Common.{◌≡◌, ℕ, suc, ◌+◌, ◌<◌, List, [], ◌∷◌, ◌++◌, length, map}
-use Rattle.std.proofs.Common.{get_or, take, drop, refl, ap, ◌∙◌, arith, drop-cons}
-use Rattle.std.specs.Prelude.{Option}
+use Rattle.std.proofs.Common.{get_or, take, drop, refl, ap, sym, ◌∙◌, arith, drop-cons}
+use Rattle.std.specs.Prelude.{Option, None, Some}
 use Rattle.std.proofs.lemmas.List.{length-map, take_more}
 use Rattle.std.proofs.Math.ListN.{get_or-map}
 use Rattle.rrc_settings.specs.Faults.{first_of}
@@ -48,3 +48,36 @@ take_view_next f vs i v h =
     get_or-map f (map view vs) i (view v) in
     let next = take_more (map f (map view vs)) i (f (view v)) (omega arith) in
     rw (there, here) at next
+
+-- one finding alone
+first_of_one : {F : Type 0} (finding : Option F) → first_of (finding ∷ []) ≡ finding
+first_of_one None = refl
+first_of_one (Some fault) = refl
+
+-- the fault of the element at place i is the list's, where those before it have none
+pub element_found : {F : Type 0} (judge : ℕ → Data → Option F) (vs : List Value) (i : ℕ) (v : Value) (found : Option F)
+    (fault : F) → found ≡ first_from judge i (drop i (map view vs)) → i < length vs → v ≡ get_or vs i v
+    → judge i (view v) ≡ Some fault → found ≡ Some fault
+element_found judge vs i v found fault rest h is here =
+    let later = first_from judge (i + 1) (drop (i + 1) (map view vs)) in
+    let there : judge i (view (get_or vs i v)) ≡ judge i (view v) = ap (λ w. judge i (view w)) (sym is) in
+    rest ∙ first_from_view_next judge vs i v h ∙ ap (λ finding. first_of (finding ∷ later ∷ [])) (there ∙ here)
+
+-- where it has none, the list's fault is that of the elements after it
+pub element_passed : {F : Type 0} (judge : ℕ → Data → Option F) (vs : List Value) (i : ℕ) (v : Value) (found : Option F)
+    → found ≡ first_from judge i (drop i (map view vs)) → i < length vs → v ≡ get_or vs i v → judge i (view v) ≡ None
+    → found ≡ first_from judge (i + 1) (drop (i + 1) (map view vs))
+element_passed judge vs i v found rest h is none =
+    let later = first_from judge (i + 1) (drop (i + 1) (map view vs)) in
+    let there : judge i (view (get_or vs i v)) ≡ judge i (view v) = ap (λ w. judge i (view w)) (sym is) in
+    rest ∙ first_from_view_next judge vs i v h ∙ ap (λ finding. first_of (finding ∷ later ∷ [])) (there ∙ none)
+    ∙ first_of_one later
+
+-- the first i values that are read and the one at place i are the first i + 1
+pub element_read : {T : Type 0} (f : Data → T) (vs : List Value) (i : ℕ) (v : Value) (read more : List T) (x : T)
+    → read ≡ take i (map f (map view vs)) → i < length vs → v ≡ get_or vs i v → more ≡ read ++ x ∷ [] → x ≡ f (view v)
+    → more ≡ take (i + 1) (map f (map view vs))
+element_read f vs i v read more x done h is pushed value =
+    let first = take i (map f (map view vs)) in
+    pushed ∙ ap (λ xs. xs ++ x ∷ []) done ∙ ap (λ y. first ++ y ∷ []) (value ∙ ap (λ w. f (view w)) is)
+    ∙ sym (take_view_next f vs i v h)

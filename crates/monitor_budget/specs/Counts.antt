@@ -1,5 +1,5 @@
 -- How many candidates and CCEs a handset looks at in a slot (3GPP TS 38.213, 10.1): each counts once, however many sets have it.
-use Rattle.std.specs.Prelude.{ℕ, ◌≤◌, All, Bool, ◌&&◌, ◌==◌, List, map}
+use Rattle.std.specs.Prelude.{ℕ, Bool, ◌&&◌, ◌==◌, List, map}
 use Rattle.std.specs.List.{range_with_len, flat_map}
 use Rattle.std.specs.Set.{distinct_count}
 use Rattle.rrc_settings.specs.declared.settings.RawCell.{RawCell}
@@ -11,7 +11,7 @@ use Rattle.coreset_map.specs.ControlResources.{cce_count}
 use Rattle.coreset_map.specs.ResourcesOfCell.{resources_in}
 use Rattle.monitor_budget.specs.declared.candidates.Candidate.{Candidate}
 use Rattle.monitor_budget.specs.declared.counted.Counted.{Counted}
-use Rattle.monitor_budget.specs.SetCandidates.{IsPlaced, sizes_in, set_candidates}
+use Rattle.monitor_budget.specs.SetCandidates.{sizes_in, set_candidates}
 use Rattle.monitor_budget.specs.Scrambling.{scrambling_start}
 
 -- how many CCEs the CORESET of a set has
@@ -21,11 +21,6 @@ cces_under cell h s = cce_count (resources_in cell.cell h.downlink.start (corese
 -- the candidates of a set, in search order
 abbrev pub candidates_of : RawCell → Handset → Sizes → SearchSet → List Candidate
 candidates_of cell h sizes s = set_candidates (cces_under cell h s) (sizes_in sizes s.kind) s
-
--- each of some candidates of a set has its CCEs in the CORESET, which has few
-pub record ArePlaced (cell : RawCell) (h : Handset) (s : SearchSet) (candidates : List Candidate) : Type 0 where
-  pub few : cces_under cell h s ≤ 192
-  pub each : All (IsPlaced (cces_under cell h s) s) candidates
 
 -- what the scrambling of a set's candidates begins with
 abbrev pub scrambling_of : RawCell → Handset → SearchSet → ℕ

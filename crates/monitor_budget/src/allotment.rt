@@ -51,11 +51,11 @@ pub fn allot(
     ensures places { IfOk result (λ allotment. All (λ place. place < length (handset_at cell.now handset).sets.items)
         allotment.sets.items) }
 {
-    allot_to(cell, handset_in(cell, handset), sizes, frame, slot)
+    allot_core(cell, handset_in(cell, handset), sizes, frame, slot)
 }
 
 /// The same, for a handset of the cell.
-fn allot_to(
+fn allot_core(
     cell: &Cell,
     handset: &Handset,
     sizes: &Sizes,

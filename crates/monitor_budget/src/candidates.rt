@@ -1,13 +1,9 @@
 //! The candidates of a search space set in a slot (3GPP TS 38.213, 10.1).
 ghost use Rattle.std.specs.Prelude.{◌≡◌, ℕ, ◌+◌, ◌*◌, ◌<◌, ◌≤◌, ◌++◌, map, length, slice_index};
-ghost use Rattle.rrc_settings.specs.HandsetsOfCell.{handset_at, set_at};
-ghost use Rattle.monitor_budget.specs.Counts.{candidates_of, ArePlaced};
 ghost use Rattle.monitor_budget.specs.SetCandidates.{AreAsked, level_candidates, set_candidates, sized, symbol_candidates};
 
-use crate::space::{Space, handset_in};
 use arrayvec::ArrayVec;
-use dci_fields::Sizes;
-use rrc_settings::{Cell, LEVELS, SearchSet, has_bit};
+use rrc_settings::{LEVELS, SearchSet, has_bit};
 use search_starts::start_cce;
 
 /// A candidate of a search space set in a slot.
@@ -23,24 +19,6 @@ pub struct Candidate {
     pub start: u16,
     /// The size of its payload.
     pub size: u16,
-}
-
-/// The candidates of the set at a place in the list of a handset, in search order. `sizes` are the handset's.
-pub fn candidates_of(
-    cell: &Cell,
-    handset: usize,
-    set: usize,
-    sizes: &Sizes,
-) -> ArrayVec<Candidate, 1120>
-    requires handset { handset < length cell.now.handsets }
-    requires set { set < length (handset_at cell.now handset).sets.items }
-    ensures items { result.items ≡ candidates_of cell.now (handset_at cell.now handset) sizes.now
-        (set_at (handset_at cell.now handset) set) }
-    ensures few { length result.items ≤ 1120 }
-    ensures placed { ArePlaced cell.now (handset_at cell.now handset) (set_at (handset_at cell.now handset) set) result.items }
-{
-    let owner = handset_in(cell, handset);
-    Space::of(cell, owner, &owner.sets[set]).candidates(sizes)
 }
 
 /// Appends the candidates of a set.

@@ -14,5 +14,5 @@ mod space;
 mod tally;
 
 pub use allotment::{Allotment, CommonOver, allot};
-pub use candidates::{Candidate, candidates_of};
+pub use candidates::Candidate;
 pub use space::{Space, handset_in};

@@ -12,7 +12,7 @@ use Rattle.dci_fields.specs.FieldLists.{width_of, IsFieldList}
 use Rattle.dci_fields.specs.FittedRows.{order_of, HasRoomForOrder}
 use Rattle.dci_fields.specs.FormatsOfSets.{is_for_fallback}
 use Rattle.coreset_map.specs.declared.places.Reg.{Reg}
-use Rattle.coreset_map.specs.RegOrder.{reg_at, AreRegs}
+use Rattle.coreset_map.specs.RegOrder.{AreInside, AreRegs, reg_at}
 use Rattle.monitor_plan.specs.declared.watch.Watch.{Watch}
 
 -- whether a format fits a watch: its set is for the format, and the format has the watch's size there
@@ -54,9 +54,7 @@ pub record IsSound (w : Watch) : Type 0 where
 
 -- the REGs of a watch are in the slot, on a carrier of so many blocks
 abbrev pub IsInside : ℕ → Watch → Type 0
-IsInside blocks w =
-    (j : ℕ) → j < length w.regs.items
-    → (w.symbol + (reg_at w.regs.items j).symbol < 14) × ((reg_at w.regs.items j).block < blocks)
+IsInside blocks w = AreInside w.symbol blocks w.regs.items
 
 -- whether a watch has the REG of the slot in this symbol and block
 abbrev pub has_reg : Watch → ℕ → ℕ → Bool

@@ -1,5 +1,5 @@
 -- No check of what may not stand together finds that a text is no JSON.
-use Rattle.std.proofs.Common.{ℕ, List, [], Bool}
+use Rattle.std.proofs.Common.{List, [], Bool}
 use Rattle.std.specs.Prelude.{Option, not}
 use Rattle.rrc_settings.specs.declared.words.Key.{Key}
 use Rattle.rrc_settings.specs.declared.words.Key.TheVariants as keys

@@ -38,7 +38,7 @@ const KEYS: [Key; 8] = [
 ];
 
 /// The handsets of a list at this place.
-#[tactic(auto, using(json_form::proofs::Elements::first_from_view_next, json_form::proofs::Elements::take_view_next))]
+#[tactic(auto, using(json_form::proofs::Elements::element_found, json_form::proofs::Elements::element_passed, json_form::proofs::Elements::element_read))]
 fn handsets_in(alloc: Global, at: &Place, values: &[Value]) -> Result<Vec<Handset>, SettingsError>
     requires room { length at.now.steps.items ≤ 1 }
     requires few { length values.now ≤ 64 }

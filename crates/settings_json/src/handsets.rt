@@ -31,7 +31,7 @@ const KEYS: [Key; 9] = [
 ];
 
 /// The CORESETs of a list at this place.
-#[tactic(auto, using(json_form::proofs::Elements::first_from_view_next, json_form::proofs::Elements::take_view_next))]
+#[tactic(auto, using(json_form::proofs::Elements::element_found, json_form::proofs::Elements::element_passed, json_form::proofs::Elements::element_read))]
 fn coresets_in(at: &Place, values: &[Value]) -> Result<ArrayVec<Coreset, 3>, SettingsFault>
     requires room { length at.now.steps.items ≤ 3 }
     requires few { length values.now ≤ 3 }
@@ -57,7 +57,7 @@ fn coresets_at(at: &Place, value: &Value) -> Result<ArrayVec<Coreset, 3>, Settin
 }
 
 /// The sets of a list at this place.
-#[tactic(auto, using(json_form::proofs::Elements::first_from_view_next, json_form::proofs::Elements::take_view_next))]
+#[tactic(auto, using(json_form::proofs::Elements::element_found, json_form::proofs::Elements::element_passed, json_form::proofs::Elements::element_read))]
 fn sets_in(at: &Place, values: &[Value]) -> Result<ArrayVec<SearchSet, 10>, SettingsFault>
     requires room { length at.now.steps.items ≤ 3 }
     requires few { length values.now ≤ 10 }

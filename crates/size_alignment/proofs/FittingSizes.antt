@@ -25,10 +25,10 @@ use Rattle.dci_fields.specs.Alignment.{has_set, raw_size, where_monitored, commo
 use Rattle.dci_fields.specs.Alignment.{are_few, sizes_apart, sizes_joined, sizes_of}
 use Rattle.dci_fields.proofs.RowLists.{fitted_is_list}
 use Rattle.dci_fields.specs.FormatsOfSets.{is_for_fallback, up_format, down_format, up_size, down_size, widths_in}
-use Rattle.dci_fields.proofs.SpanWidths.{IsSpanWidth, span_width, fdra_width_is}
+use Rattle.dci_fields.proofs.SpanWidths.{IsSpanWidth, span_width}
 use Rattle.dci_fields.proofs.BlockCounts.{downlink_count, uplink_count}
-use Rattle.dci_fields.proofs.FormatWidths.{width_00, width_10, IsWidth, width_01, width_11}
-use Rattle.dci_fields.proofs.FormatLists.{list_00, list_10, list_01, list_11}
+use Rattle.dci_fields.proofs.FormatWidths.{width_00, width_10}
+use Rattle.dci_fields.proofs.FormatLists.{list_00, list_10, IsFormat, format_01, format_11}
 
 -- rows that fit a size
 pub record Fit (rows : List FieldRow) (size : ℕ) : Type 0 where
@@ -155,52 +155,41 @@ told_within m fallback size h k = by (m && nat_eq size fallback) refl
         same false e = absurd (cc)
     by false e = (omega arith, omega (arith, k))
 
--- a size between those of a format and one more
-other_fit : (rows : List FieldRow) (n size : ℕ) → IsFieldList rows → IsWidth n (width_of rows) → 0 < fdra_of rows
-    → width_of rows ≤ size → size ≤ 84 → Fit rows size
-other_fit rows n size list w some l m = no_cut rows size list l some (let a = w.least in omega (arith, a, l)) m
-
 -- the rows of formats 0_1 and 1_1
-record IsOther (n : ℕ) (rows : List FieldRow) : Type 0 where
-  width : IsWidth n (width_of rows)
-  list : IsFieldList rows
-  some : 0 < fdra_of rows
-
 up_other : (h : Handset) (o : Option UplinkFields) → IsLegalBwp h.uplink → IfSome o (IsLegalUplink h.codebook)
-    → is_some o ≡ true → IsOther 74 (uplink_rows h o)
+    → is_some o ≡ true → IsFormat 74 (uplink_rows h o)
 up_other h None b s e = absurd (cc)
-up_other h (Some f) b s e = record {
-  width = width_01 h.codebook h.uplink f b s;
-  list = list_01 h.codebook h.uplink f b s;
-  some = let w = fdra_width_is h.uplink f.allocation f.rbg_config b in let l = w.least in omega (arith, l);
-}
+up_other h (Some f) b s e = format_01 h.codebook h.uplink f b s
 
 down_other : (h : Handset) (o : Option DownlinkFields) → IsLegalBwp h.downlink → IfSome o IsLegalDownlink → is_some o ≡ true
-    → IsOther 84 (downlink_rows h o)
+    → IsFormat 84 (downlink_rows h o)
 down_other h None b s e = absurd (cc)
-down_other h (Some f) b s e = record {
-  width = width_11 h.codebook h.downlink f b s;
-  list = list_11 h.codebook h.downlink f b s;
-  some = let w = fdra_width_is h.downlink f.allocation f.rbg_config b in let l = w.least in omega (arith, l);
-}
+down_other h (Some f) b s e = format_11 h.codebook h.downlink f b s
 
-told_fit : (rows : List FieldRow) (n : ℕ) (m : Bool) (fallback : ℕ) → n ≤ 84 → fallback ≤ 44 → IsOther n rows
+-- a size from theirs on
+other_fit : (rows : List FieldRow) (n size : ℕ) → IsFormat n rows → width_of rows ≤ size → size ≤ 84 → Fit rows size
+other_fit rows n size o l m = no_cut rows size o.list l o.some (let a = o.least in omega (arith, a, l)) m
+
+told_fit : (rows : List FieldRow) (n : ℕ) (m : Bool) (fallback : ℕ) → n ≤ 84 → fallback ≤ 44 → IsFormat n rows
     → Fit rows (told_apart m fallback (width_of rows))
 told_fit rows n m fallback l f o =
-    let w = o.width in
-    let t = told_within m fallback (width_of rows) f (let k = w.most in omega (arith, k, l)) in
-    other_fit rows n (told_apart m fallback (width_of rows)) o.list w o.some t.0 t.1
+    let t = told_within m fallback (width_of rows) f (let k = o.most in omega (arith, k, l)) in
+    other_fit rows n (told_apart m fallback (width_of rows)) o t.0 t.1
 
-raw_fit : (rows : List FieldRow) (n : ℕ) → n ≤ 84 → IsOther n rows → Fit rows (width_of rows)
-raw_fit rows n l o =
-    let w = o.width in other_fit rows n (width_of rows) o.list w o.some (omega arith) (let k = w.most in omega (arith, k, l))
+raw_fit : (rows : List FieldRow) (n : ℕ) → n ≤ 84 → IsFormat n rows → Fit rows (width_of rows)
+raw_fit rows n l o = other_fit rows n (width_of rows) o (omega arith) (let k = o.most in omega (arith, k, l))
+
+-- what holds of two formats with their sizes, where these are monitored, and of the second where it is one of fallback
+pub record FormatsFit (up_size down_size : Option ℕ) (up_rows down_rows : List FieldRow) (fallback : Bool) : Type 0 where
+  pub up : Fits up_size up_rows
+  pub down : Fits down_size down_rows
+  pub room : fallback ≡ true → (size : ℕ) → down_size ≡ Some size → HasRoomForOrder size (fitted down_rows size)
 
 -- what holds of the formats of a kind of set
-pub record SetFit (cell : RawCell) (h : Handset) (sizes : Sizes) (kind : SetKind) : Type 0 where
-  pub up : Fits (up_size sizes kind) (rows_of cell h (up_format kind) (widths_in sizes kind))
-  pub down : Fits (down_size sizes kind) (rows_of cell h (down_format kind) (widths_in sizes kind))
-  pub room : is_for_fallback kind ≡ true → (size : ℕ) → down_size sizes kind ≡ Some size
-      → HasRoomForOrder size (fitted (rows_of cell h (down_format kind) (widths_in sizes kind)) size)
+abbrev pub SetFit : RawCell → Handset → Sizes → SetKind → Type 0
+SetFit cell h sizes kind =
+    FormatsFit (up_size sizes kind) (down_size sizes kind) (rows_of cell h (up_format kind) (widths_in sizes kind))
+    (rows_of cell h (down_format kind) (widths_in sizes kind)) (is_for_fallback kind)
 
 -- a kind of set has the fields that its formats ask for
 pub record HasFields (h : Handset) (kind : SetKind) : Type 0 where
@@ -211,70 +200,52 @@ room-at : (b : Bool) (n : ℕ) (rows : List FieldRow) → HasRoomForOrder n (fit
     → where_monitored b n ≡ Some size → HasRoomForOrder size (fitted rows size)
 room-at b n rows h size e = subst (λ k. HasRoomForOrder k (fitted rows k)) (monitored b n size e) h
 
+-- both fallback formats, where their size is monitored
+fallback_set : (cell : RawCell) (h : Handset) (widths : Widths) (b : Bool) (n : ℕ) → FallbackFit cell h widths n
+    → FormatsFit (where_monitored b n) (where_monitored b n) (rows_of cell h F00 widths) (rows_of cell h F10 widths) true
+fallback_set cell h widths b n f = record {
+  up = none-fits (rows_of cell h F00 widths) b n f.up;
+  down = none-fits (rows_of cell h F10 widths) b n f.down;
+  room = λ t. room-at b n (rows_of cell h F10 widths) f.room;
+}
+
+-- both specific formats, where their sizes are monitored
+specific_set : (up down : List FieldRow) (b : Bool) (m n : ℕ) → Fit up m → Fit down n
+    → FormatsFit (where_monitored b m) (where_monitored b n) up down false
+specific_set up down b m n f g = record {
+  up = none-fits up b m f;
+  down = none-fits down b n g;
+  room = λ t. absurd (cc);
+}
+
 apart_fit : (cell : RawCell) (h : Handset) (kind : SetKind) → IsLegalCell cell → IsLegalHandset cell h → HasFields h kind
     → SetFit cell h (sizes_apart cell h) kind
 apart_fit cell h kinds.Common a b f =
-    let c = common_fit cell h a b in
-    let m = has_set h kinds.Common in
-    record {
-      up = none-fits (rows_of cell h F00 Common) m (common_size cell h) c.up;
-      down = none-fits (rows_of cell h F10 Common) m (common_size cell h) c.down;
-      room = λ t. room-at m (common_size cell h) (rows_of cell h F10 Common) c.room;
-    }
+    fallback_set cell h Common (has_set h kinds.Common) (common_size cell h) (common_fit cell h a b)
 apart_fit cell h kinds.Fallback a b f =
-    let c = own_fit cell h a b in
-    let m = has_set h kinds.Fallback in
-    record {
-      up = none-fits (rows_of cell h F00 Own) m (fallback_size cell h) c.up;
-      down = none-fits (rows_of cell h F10 Own) m (fallback_size cell h) c.down;
-      room = λ t. room-at m (fallback_size cell h) (rows_of cell h F10 Own) c.room;
-    }
+    fallback_set cell h Own (has_set h kinds.Fallback) (fallback_size cell h) (own_fit cell h a b)
 apart_fit cell h kinds.Specific a b f =
     let m = has_set h kinds.Fallback in
-    let n = has_set h kinds.Specific in
+    let fallback = fallback_size cell h in
     let up = uplink_rows h h.uplink_fields in
     let down = downlink_rows h h.downlink_fields in
     let most = fallback_most cell h a b in
-    record {
-      up = none-fits up n (told_apart m (fallback_size cell h) (width_of up))
-          (told_fit up 74 m (fallback_size cell h) (omega arith) most
-          (up_other h h.uplink_fields b.uplink b.uplink_fields (f.up refl)));
-      down = none-fits down n (told_apart m (fallback_size cell h) (width_of down))
-          (told_fit down 84 m (fallback_size cell h) (omega arith) most
-          (down_other h h.downlink_fields b.downlink b.downlink_fields (f.down refl)));
-      room = λ t. absurd (cc);
-    }
+    specific_set up down (has_set h kinds.Specific) (told_apart m fallback (width_of up)) (told_apart m fallback (width_of down))
+    (told_fit up 74 m fallback (omega arith) most (up_other h h.uplink_fields b.uplink b.uplink_fields (f.up refl)))
+    (told_fit down 84 m fallback (omega arith) most (down_other h h.downlink_fields b.downlink b.downlink_fields (f.down refl)))
 
 joined_fit : (cell : RawCell) (h : Handset) (kind : SetKind) → IsLegalCell cell → IsLegalHandset cell h → HasFields h kind
     → SetFit cell h (sizes_joined cell h) kind
 joined_fit cell h kinds.Common a b f =
-    let c = common_fit cell h a b in
-    let m = has_set h kinds.Common in
-    record {
-      up = none-fits (rows_of cell h F00 Common) m (common_size cell h) c.up;
-      down = none-fits (rows_of cell h F10 Common) m (common_size cell h) c.down;
-      room = λ t. room-at m (common_size cell h) (rows_of cell h F10 Common) c.room;
-    }
+    fallback_set cell h Common (has_set h kinds.Common) (common_size cell h) (common_fit cell h a b)
 joined_fit cell h kinds.Fallback a b f =
-    let c = common_fit cell h a b in
-    let m = has_set h kinds.Fallback in
-    record {
-      up = none-fits (rows_of cell h F00 Common) m (common_size cell h) c.up;
-      down = none-fits (rows_of cell h F10 Common) m (common_size cell h) c.down;
-      room = λ t. room-at m (common_size cell h) (rows_of cell h F10 Common) c.room;
-    }
+    fallback_set cell h Common (has_set h kinds.Fallback) (common_size cell h) (common_fit cell h a b)
 joined_fit cell h kinds.Specific a b f =
-    let n = has_set h kinds.Specific in
     let up = uplink_rows h h.uplink_fields in
     let down = downlink_rows h h.downlink_fields in
-    record {
-      up = none-fits up n (width_of up)
-          (raw_fit up 74 (omega arith) (up_other h h.uplink_fields b.uplink b.uplink_fields (f.up refl)));
-      down =
-          none-fits down n (width_of down)
-          (raw_fit down 84 (omega arith) (down_other h h.downlink_fields b.downlink b.downlink_fields (f.down refl)));
-      room = λ t. absurd (cc);
-    }
+    specific_set up down (has_set h kinds.Specific) (width_of up) (width_of down)
+    (raw_fit up 74 (omega arith) (up_other h h.uplink_fields b.uplink b.uplink_fields (f.up refl)))
+    (raw_fit down 84 (omega arith) (down_other h h.downlink_fields b.downlink b.downlink_fields (f.down refl)))
 
 -- each format of each kind of set fits its size
 pub set_fit : (cell : RawCell) (h : Handset) (kind : SetKind) → IsLegalCell cell → IsLegalHandset cell h → HasFields h kind

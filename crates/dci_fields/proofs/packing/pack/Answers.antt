@@ -6,18 +6,18 @@ use Rattle.dci_fields.proofs.packing.pack.Goals as goal
 
 pub returns-clause-payload : goal.returns-clause-payload
 returns-clause-payload c =
-    let P : List FieldRow → Type 0 = λ rows. IsPacked rows c.args.format c.args.given.now c.args.size c.pack_rows.result in
-    packed_exactly c.args.list.now c.args.format c.args.given.now c.args.size c.pack_rows.result
-    (subst P c.rows.ensures.value c.pack_rows.ensures)
+    let P : List FieldRow → Type 0 = λ rows. IsPacked rows c.args.format c.args.given.now c.args.size c.pack_core.result in
+    packed_exactly c.args.list.now c.args.format c.args.given.now c.args.size c.pack_core.result
+    (subst P c.rows.ensures.value c.pack_core.ensures)
 
 pub returns-clause-fault : goal.returns-clause-fault
 returns-clause-fault c =
-    let P : List FieldRow → Type 0 = λ rows. IsPacked rows c.args.format c.args.given.now c.args.size c.pack_rows.result in
-    fault_exactly c.args.list.now c.args.format c.args.given.now c.args.size c.pack_rows.result
-    (subst P c.rows.ensures.value c.pack_rows.ensures)
+    let P : List FieldRow → Type 0 = λ rows. IsPacked rows c.args.format c.args.given.now c.args.size c.pack_core.result in
+    fault_exactly c.args.list.now c.args.format c.args.given.now c.args.size c.pack_core.result
+    (subst P c.rows.ensures.value c.pack_core.ensures)
 
 pub returns-clause-size_is : goal.returns-clause-size_is
 returns-clause-size_is c =
-    let P : List FieldRow → Type 0 = λ rows. IsPacked rows c.args.format c.args.given.now c.args.size c.pack_rows.result in
-    result_size c.args.list.now c.args.format c.args.given.now c.args.size c.pack_rows.result c.requires.width
-    (subst P c.rows.ensures.value c.pack_rows.ensures)
+    let P : List FieldRow → Type 0 = λ rows. IsPacked rows c.args.format c.args.given.now c.args.size c.pack_core.result in
+    result_size c.args.list.now c.args.format c.args.given.now c.args.size c.pack_core.result c.requires.width
+    (subst P c.rows.ensures.value c.pack_core.ensures)

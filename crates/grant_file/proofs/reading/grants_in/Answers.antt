@@ -1,12 +1,12 @@
 use Rattle.std.proofs.Common.{arith}
 use Rattle.std.proofs.lemmas.Grind.{common_steps}
+use Rattle.std.proofs.lemmas.List.Elements.{All-push}
 use Rattle.std.specs.Prelude.{Some}
 use Rattle.json_form.proofs.Elements.{first_from_view_next, take_view_next}
 use Rattle.grant_file.specs.Faults.{whole_at}
 use Rattle.grant_file.specs.Lists.{IsReadGrant}
 use Rattle.grant_file.specs.Shapes.{judge_grant}
 use Rattle.grant_file.specs.Values.{grant_value}
-use Rattle.grant_file.proofs.Lists.{all_and_one}
 use Rattle.grant_file.proofs.reading.grants_in.Goals as goal
 
 pub returns-in_err-grant_of : goal.returns-in_err-grant_of
@@ -40,7 +40,7 @@ loop-index-preserved c =
           let earlier = c.loop-index.grants.items in
           let grant = c.in_ok-grant_of.field-0 in
           rw c.in_ok-push.ensures.items
-          (all_and_one IsReadGrant earlier grant c.loop-index.invariant.kept c.in_ok-grant_of.ensures.kept);
+          (All-push IsReadGrant earlier grant c.loop-index.invariant.kept c.in_ok-grant_of.ensures.kept);
       done =
           let t = take_view_next grant_value vs at c.index-values-index.result c.loop-index-test.true in
           grind (arith, common_steps, c.in_ok-push.ensures.items);

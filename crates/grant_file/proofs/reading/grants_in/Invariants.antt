@@ -1,5 +1,5 @@
 use Rattle.std.proofs.Common.{◌≡◌, All, length, map, take, drop}
-use Rattle.std.specs.Prelude.{None, Some}
+use Rattle.std.specs.Prelude.{Some}
 use Rattle.serde_json.specs.View.{view}
 use Rattle.json_form.specs.Kinds.{judge_each, first_from}
 use Rattle.grant_file.specs.Faults.{names, whole_at}

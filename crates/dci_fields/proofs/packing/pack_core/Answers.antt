@@ -5,7 +5,7 @@ use Rattle.dci_fields.specs.declared.names.FieldName.TheVariants as names
 use Rattle.dci_fields.specs.declared.rows.FieldRow.{FieldRow}
 use Rattle.dci_fields.proofs.GivenLists.{narrow_at, settled_value-fits}
 use Rattle.dci_fields.proofs.RowPacking.{one_more_packed, next_within, packed_whole, settled_value_lt}
-use Rattle.dci_fields.proofs.packing.pack_rows.Goals as goal
+use Rattle.dci_fields.proofs.packing.pack_core.Goals as goal
 
 pub settled_value-value-requires : goal.settled_value-value-requires
 settled_value-value-requires c =

@@ -4,7 +4,7 @@ use Rattle.monitor_budget.specs.declared.allotment.CommonOver.{CommonOver}
 use Rattle.monitor_budget.specs.Allotting.{common_sets, allotment_of, allotted, keep_limits, longest_front}
 use Rattle.monitor_budget.proofs.SearchOrder.{few_both, all_within}
 use Rattle.monitor_budget.proofs.Allotments.{are_common, over_made, allotted_over, allotted-fits, answer_within}
-use Rattle.monitor_budget.proofs.allotment.allot_to.Goals as goal
+use Rattle.monitor_budget.proofs.allotment.allot_core.Goals as goal
 
 -- the two answers
 abbrev failed : CommonOver → Result Allotment CommonOver

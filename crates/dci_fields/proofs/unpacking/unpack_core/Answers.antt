@@ -1,7 +1,7 @@
 use Rattle.std.proofs.Common.{not, ℕ, drop, ap, sym, ◌∙◌}
 use Rattle.std.specs.List.{list_all}
 use Rattle.dci_fields.proofs.PayloadCarriers.{carried, not_allowed, not_padded}
-use Rattle.dci_fields.proofs.unpacking.unpack_rows.Goals as goal
+use Rattle.dci_fields.proofs.unpacking.unpack_core.Goals as goal
 
 pub returns-in_err-values : goal.returns-in_err-values
 returns-in_err-values c =
