@@ -14,9 +14,10 @@ use Rattle.grant_file.specs.declared.grants.Grant.{Grant}
 use Rattle.cell_placer.specs.declared.member.Member.{Member}
 use Rattle.cell_placer.specs.declared.member.Accepted.{Accepted}
 use Rattle.cell_placer.specs.declared.refusal.Refusal.{Refusal}
+use Rattle.cell_placer.specs.declared.refusal.Refusal.TheVariants.{Full}
 use Rattle.cell_placer.specs.Ledger.{LedgerValue, no_member, member_at, IsMember, IsLedger}
 use Rattle.cell_placer.specs.Suitable.{is_suitable}
-use Rattle.cell_placer.specs.Fate.{first_meeting, is_free, by_free, by_fault, by_first, by_set, by_handset, decided}
+use Rattle.cell_placer.specs.Fate.{first_meeting, is_free, by_room, by_free, by_fault, by_first, by_set, by_handset, decided}
 use Rattle.cell_placer.specs.Ready.{IsReady}
 use Rattle.cell_placer.proofs.SuitableWatches.{suits, first_suits}
 
@@ -47,11 +48,15 @@ refused r a e = absurd (let f : ⊥ = cc in f)
 same_entry : (a b : Accepted) → ◌≡◌ {A = Result Accepted Refusal} (Ok a) (Ok b) → a ≡ b
 same_entry a b e = cc
 
-room_ok : (call handset watch room : ℕ) (r : Refusal) (n : ℕ) (a : Accepted) (b : Bool) → nat_lt n room ≡ b
-    → ◌≡◌ {A = Result Accepted Refusal} (cond b (Ok (entry call handset watch)) (Err r)) (Ok a)
-    → (entry call handset watch ≡ a) × (n < room)
-room_ok call handset watch room r n a true e h = (same_entry (entry call handset watch) a h, ltb-true n room e)
-room_ok call handset watch room r n a false e h = refused r a h
+room_ok : (ledger : LedgerValue) (handset watch : ℕ) (a : Accepted) → by_room ledger handset watch ≡ Ok a
+    → (entry ledger.calls handset watch ≡ a) × (length ledger.accepted < ledger.room)
+room_ok ledger handset watch a h = by (nat_lt (length ledger.accepted) ledger.room) refl h
+  where
+    by : (b : Bool) → nat_lt (length ledger.accepted) ledger.room ≡ b
+        → ◌≡◌ {A = Result Accepted Refusal} (cond b (Ok (entry ledger.calls handset watch)) (Err (Full ledger.room))) (Ok a)
+        → (entry ledger.calls handset watch ≡ a) × (length ledger.accepted < ledger.room)
+    by true e k = (same_entry (entry ledger.calls handset watch) a k, ltb-true (length ledger.accepted) ledger.room e)
+    by false e k = refused (Full ledger.room) a k
 
 -- the decision at each step
 abbrev IsFree : LedgerValue → ℕ → Option ℕ → Accepted → Type 0
@@ -63,13 +68,11 @@ free_ok : (ledger : LedgerValue) (handset : ℕ) (first : Watch) (found : Option
     → IsFree ledger handset found a
 free_ok ledger handset first None a h = refused _ a h
 free_ok ledger handset first (Some watch) a h =
-    let ok = room_ok ledger.calls handset watch ledger.room _ (length ledger.accepted) a
-    (nat_lt (length ledger.accepted) ledger.room) refl h in (
-      ap (λ (x : Accepted). Some x.watch) ok.0,
-      sym (ap (λ (x : Accepted). x.handset) ok.0),
-      sym
-          (ap (λ (x : Accepted). x.call) ok.0),
-      ok.1,
+    let (same, room) = room_ok ledger handset watch a h in (
+      ap (λ (x : Accepted). Some x.watch) same,
+      sym (ap (λ (x : Accepted). x.handset) same),
+      sym (ap (λ (x : Accepted). x.call) same),
+      room,
     )
 
 fault_ok : (ledger : LedgerValue) (grant : Grant) (handset : ℕ) (watches : List Watch) (first : Watch)
@@ -164,6 +167,7 @@ ready ledger grant a keeps h =
       faultless = subst P (sym alike.0) d.faultless;
     }
 
+-- so it is of each entry that is decided
 pub ready_if : (ledger : LedgerValue) (grant : Grant) (result : Result Accepted Refusal) → IsLedger ledger
     → result ≡ decided ledger grant
     → IfOk result (λ a. IsReady ledger grant a)

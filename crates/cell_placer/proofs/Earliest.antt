@@ -39,6 +39,7 @@ first_least p low last (x ∷ later) n k d calls e h t =
     by false f zero e h t rest above = absurd (let clash : false ≡ true = sym f ∙ t in let g : ⊥ = cc in g)
     by false f (suc k) e h t rest above = rest k e (omega (arith, h)) t
 
+-- the law: no grant in the way is earlier than the one that is named
 pub names_the_earliest : NamesTheEarliest
 names_the_earliest ledger w n k d keeps e h t =
     first_least (meets ledger.members w) 0 ledger.calls ledger.accepted n k d keeps.calls e h t

@@ -18,30 +18,44 @@ pub member_is : (members : List Member) (h : ℕ) (m : Member) → h < length me
     → m ≡ member_at members h
 member_is members h m l e = e ∙ get_or_default members h m no_member l
 
--- the watch that is found at an entry's place is the entry's
-pub watch_is : (members : List Member) (a : Accepted) (m : Member) (watches : List Watch) (w : Watch) → a.handset < length members
-    → a.watch < length (member_at members a.handset).plan → m ≡ get_or members a.handset m → watches ≡ m.plan
-    → w ≡ get_or watches a.watch w
-    → w ≡ watch_of members a
-watch_is members a m watches w h k e f g =
-    let same : watches ≡ (member_at members a.handset).plan = f
-    ∙ ap (λ (x : Member). x.plan) (member_is members a.handset m h e) in
-    g ∙ ap (λ (x : List Watch). get_or x a.watch w) same ∙ get_or_default (member_at members a.handset).plan a.watch w no_watch k
+-- a watch is found for an entry: among the watches of the handset at the entry's place
+pub record IsFoundFor (members : List Member) (a : Accepted) (w : Watch) : Type 0 where
+  pub member : Member
+  pub watches : List Watch
+  pub member_is : member ≡ get_or members a.handset member
+  pub watches_are : watches ≡ member.plan
+  pub watch_is : w ≡ get_or watches a.watch w
 
--- the owners with one entry more
-pub owners_after : (ledger : LedgerValue) (a : Accepted) (w : Watch) (regs : List Reg)
-    (owners before after : List (Option ℕ)) → IsSpot ledger a
-    → AreOwners ledger.blocks ledger.members ledger.accepted owners → w ≡ watch_of ledger.members a → regs ≡ w.regs.items
-    → before ≡ owners
-    → after ≡ owned a.call ledger.blocks w.symbol before regs
+-- it is the entry's
+pub watch_found : {ledger : LedgerValue} {a : Accepted} {w : Watch} → IsSpot ledger a → IsFoundFor ledger.members a w
+    → w ≡ watch_of ledger.members a
+watch_found {ledger} {a} {w} spot found =
+    let m = member_at ledger.members a.handset in
+    let same : found.watches ≡ m.plan = found.watches_are
+    ∙ ap (λ (x : Member). x.plan) (member_is ledger.members a.handset found.member spot.handset found.member_is) in
+    found.watch_is ∙ ap (λ (x : List Watch). get_or x a.watch w) same ∙ get_or_default m.plan a.watch w no_watch spot.watch
+
+-- a table was written for an entry: that of the owners before it, where the call owns the REGs of its watch
+pub record IsOwnedBy (ledger : LedgerValue) (a : Accepted) (owners after : List (Option ℕ)) : Type 0 where
+  pub watch : Watch
+  pub regs : List Reg
+  pub before : List (Option ℕ)
+  pub watch_is : watch ≡ watch_of ledger.members a
+  pub regs_are : regs ≡ watch.regs.items
+  pub before_is : before ≡ owners
+  pub after_is : after ≡ owned a.call ledger.blocks watch.symbol before regs
+
+-- it is the table of the owners with the entry
+pub owners_after : {ledger : LedgerValue} {a : Accepted} {owners after : List (Option ℕ)} → IsSpot ledger a
+    → AreOwners ledger.blocks ledger.members ledger.accepted owners → IsOwnedBy ledger a owners after
     → AreOwners ledger.blocks ledger.members (ledger.accepted ++ a ∷ []) after
-owners_after ledger a w regs owners before after spot table e f g h =
+owners_after {ledger} {a} {owners} {after} spot table w =
     let own = watch_of ledger.members a in
     let P : List (Option ℕ) → Type 0 = λ x. AreOwners ledger.blocks ledger.members (ledger.accepted ++ a ∷ []) x in
     let same : after ≡ owned a.call ledger.blocks own.symbol owners own.regs.items =
-    h ∙ ap (λ (x : List (Option ℕ)). owned a.call ledger.blocks w.symbol x regs) g
-    ∙ ap (λ (x : List Reg). owned a.call ledger.blocks w.symbol owners x) f
-    ∙ ap (λ (x : Watch). owned a.call ledger.blocks x.symbol owners x.regs.items) e in
+    w.after_is ∙ ap (λ (x : List (Option ℕ)). owned a.call ledger.blocks w.watch.symbol x w.regs) w.before_is
+    ∙ ap (λ (x : List Reg). owned a.call ledger.blocks w.watch.symbol owners x) w.regs_are
+    ∙ ap (λ (x : Watch). owned a.call ledger.blocks x.symbol owners x.regs.items) w.watch_is in
     subst P (sym same) (owned_is ledger.blocks ledger.members ledger.accepted owners a table spot.inside spot.free)
 
 -- the ledger with one entry more

@@ -34,27 +34,28 @@ use Rattle.cell_placer.proofs.Decisions.{ready, decided_ok}
 use Rattle.cell_placer.proofs.Entries.{ledger_after, ledger_counted}
 use Rattle.cell_placer.proofs.Faultless.{payload_there, list_is}
 
--- the images of two watches that share no REG are alike wherever both have a point
-blocks_compatible : (tables : Tables) (slot other_slot : ℕ) (w v : Watch) (block other : List Bool) → shares_reg v w ≡ false
-    → AreCompatible (block_image tables slot w block) (block_image tables other_slot v other)
-blocks_compatible tables slot other_slot w v block other apart =
-    let P : Image → Type 0 = λ i. AreCompatible i (block_image tables other_slot v other) in
-    let one = scrambled w.scramble (code tables w block) in
-    let two = scrambled v.scramble (code tables v other) in
-    let Q : Image → Type 0 = λ i. AreCompatible (image_of slot w.symbol w.dmrs_id w.regs.items one) i in
-    subst P (sym (image_is tables slot w block))
-    (subst Q (sym (image_is tables other_slot v other))
-    (images_compatible slot w.symbol w.dmrs_id w.regs.items one other_slot v.symbol v.dmrs_id v.regs.items two
-    (λ i j h k e f.
-    let shared : SharesReg v w = record { reg = j; other = i; within = k; other_within = h; symbol = sym e; block = sym f } in
-    let clash : false ≡ true = sym apart ∙ (tells_shared_regs v w).1 shared in cc)))
+module _ (tables : Tables) (slot : ℕ) (w : Watch) (block : List Bool) where
+  -- the images of two watches that share no REG are alike wherever both have a point
+  blocks_compatible : (other_slot : ℕ) (v : Watch) (other : List Bool) → shares_reg v w ≡ false
+      → AreCompatible (block_image tables slot w block) (block_image tables other_slot v other)
+  blocks_compatible other_slot v other apart =
+      let P : Image → Type 0 = λ i. AreCompatible i (block_image tables other_slot v other) in
+      let one = scrambled w.scramble (code tables w block) in
+      let two = scrambled v.scramble (code tables v other) in
+      let Q : Image → Type 0 = λ i. AreCompatible (image_of slot w.symbol w.dmrs_id w.regs.items one) i in
+      subst P (sym (image_is tables slot w block))
+      (subst Q (sym (image_is tables other_slot v other))
+      (images_compatible slot w.symbol w.dmrs_id w.regs.items one other_slot v.symbol v.dmrs_id v.regs.items two
+      (λ i j h k e f.
+      let shared : SharesReg v w = record { reg = j; other = i; within = k; other_within = h; symbol = sym e; block = sym f } in
+      let clash : false ≡ true = sym apart ∙ (tells_shared_regs v w).1 shared in cc)))
 
-payload_compatible : (tables : Tables) (slot other_slot : ℕ) (w v : Watch) (block : List Bool)
-    (payload : Option (List Bool)) → shares_reg v w ≡ false
-    → AreCompatible (block_image tables slot w block) (payload_image tables other_slot v payload)
-payload_compatible tables slot other_slot w v block None apart s c p q e f = absurd (let g : ⊥ = cc in g)
-payload_compatible tables slot other_slot w v block (Some payload) apart s c p q e f =
-    blocks_compatible tables slot other_slot w v block (masked payload v.rnti) apart s c p q e f
+  -- and so is the image of a payload there, where there is one
+  payload_compatible : (other_slot : ℕ) (v : Watch) (payload : Option (List Bool)) → shares_reg v w ≡ false
+      → AreCompatible (block_image tables slot w block) (payload_image tables other_slot v payload)
+  payload_compatible other_slot v None apart s c p q e f = absurd (let g : ⊥ = cc in g)
+  payload_compatible other_slot v (Some payload) apart s c p q e f =
+      blocks_compatible other_slot v (masked payload v.rnti) apart s c p q e f
 
 -- a block stands on the grid at a watch that no later grant may touch
 record Stands (tables : Tables) (slot : ℕ) (w : Watch) (block : List Bool) (desk : DeskValue) : Type 0 where
@@ -96,6 +97,7 @@ meeting_last : (members : List Member) (accepted : List Accepted) (a : Accepted)
 meeting_last members accepted a v e =
     last_none (find (meets members v) accepted) a (meets members v a) (sym (meeting_append members accepted a v) ∙ e)
 
+-- the desk after a grant, by what was decided of it
 abbrev pub desk_by : Tables → DeskValue → Grant → Result Accepted Refusal → DeskValue
 desk_by tables desk grant r = record { ledger = booked desk.ledger r; grid = written tables desk.ledger grant desk.grid r }
 
@@ -111,13 +113,13 @@ desk_kept tables desk grant (Ok a) e h = record {
 desk_kept tables desk grant (Err refusal) e h = record { ledger = ledger_counted desk.ledger h.ledger; blocks = h.blocks }
 
 -- what stands stays after one grant
-stands_kept : (tables : Tables) (slot : ℕ) (w : Watch) (block : List Bool) (desk : DeskValue) (grant : Grant)
-    (r : Result Accepted Refusal)
+stands_kept : {tables : Tables} {slot : ℕ} {w : Watch} {block : List Bool} {desk : DeskValue} (grant : Grant)
+    {r : Result Accepted Refusal}
     → decided desk.ledger grant ≡ r → IsDesk desk → Stands tables slot w block desk
     → Stands tables slot w block (desk_by tables desk grant r)
-stands_kept tables slot w block desk grant (Err refusal) e h stands =
+stands_kept {tables} {slot} {w} {block} {desk} grant {r = Err refusal} e h stands =
     record { agrees = stands.agrees; inside = stands.inside; slot_is = stands.slot_is; guarded = stands.guarded }
-stands_kept tables slot w block desk grant (Ok a) e h stands =
+stands_kept {tables} {slot} {w} {block} {desk} grant {r = Ok a} e h stands =
     let members = desk.ledger.members in
     let v = watch_of members a in
     let image = grant_image tables desk.grid.slot v grant in
@@ -126,21 +128,20 @@ stands_kept tables slot w block desk grant (Ok a) e h stands =
     record {
       agrees =
           agrees_after (block_image tables slot w block) image desk.grid (image_on tables desk.grid slot w block stands.inside)
-          (payload_compatible tables slot desk.grid.slot w v block (payload_at v grant) apart) stands.agrees;
+          (payload_compatible tables slot w block desk.grid.slot v (payload_at v grant) apart) stands.agrees;
       inside = subst (λ (n : ℕ). IsInside n w) (sym (blocks-overwritten image desk.grid)) stands.inside;
       slot_is = slot-overwritten image desk.grid ∙ stands.slot_is;
       guarded = λ x none. stands.guarded x (meeting_before members desk.ledger.accepted a x none);
     }
 
 -- and after all
-stands_after : (tables : Tables) (slot : ℕ) (w : Watch) (block : List Bool) (desk : DeskValue) (grants : List Grant) → IsDesk desk
+stands_after : {tables : Tables} {slot : ℕ} {w : Watch} {block : List Bool} (grants : List Grant) (desk : DeskValue) → IsDesk desk
     → Stands tables slot w block desk → Stands tables slot w block (desk_after tables desk grants)
 unfolding desk_after
-stands_after tables slot w block desk [] h stands = stands
-stands_after tables slot w block desk (grant ∷ grants) h stands =
-    stands_after tables slot w block (step tables desk grant) grants
-    (desk_kept tables desk grant (decided desk.ledger grant) refl h)
-    (stands_kept tables slot w block desk grant (decided desk.ledger grant) refl h stands)
+stands_after [] desk h stands = stands
+stands_after {tables = tables} (grant ∷ grants) desk h stands =
+    stands_after grants (step tables desk grant) (desk_kept tables desk grant (decided desk.ledger grant) refl h)
+    (stands_kept grant refl h stands)
 
 -- an accepted grant stands
 stands_first : (tables : Tables) (desk : DeskValue) (grant : Grant) (a : Accepted) (payload : List Bool) → IsDesk desk
@@ -174,12 +175,12 @@ watch_named ledger grant a e =
     ap (λ (o : Option ℕ). watch_at (member_at ledger.members (unwrap_or o 0)).plan a.watch) (sym d.handset)
 
 -- what stands is heard
-heard_standing : (tables : Tables) (slot : ℕ) (w : Watch) (grant : Grant) (payload : List Bool) (desk : DeskValue)
+heard_standing : {tables : Tables} {slot : ℕ} {w : Watch} (grant : Grant) {payload : List Bool} {desk : DeskValue}
     (number : ℕ) → AreTables tables
     → IsSound w → fits w grant.format ≡ true → payload_at w grant ≡ Some payload
     → Stands tables slot w (masked payload w.rnti) desk
     → IsHeardAs tables desk.grid w grant number
-heard_standing tables slot w grant payload desk number legal sound fitting packs stands =
+heard_standing {tables} {slot} {w} grant {payload} {desk} number legal sound fitting packs stands =
     let P : ℕ → Type 0 = λ s. Agrees desk.grid (block_image tables s w (masked payload w.rnti)) in
     let spelling = spelling_by w grant.format grant.given in
     let spells : Spells tables desk.grid w spelling =
@@ -199,10 +200,8 @@ heard_first tables desk grant grants a legal h e =
     let P : Result Accepted Refusal
     → Type 0 = λ r. Stands tables desk.grid.slot w (masked payload w.rnti) (desk_by tables desk grant r) in
     let stands = subst P (sym e) (stands_first tables desk grant a payload h e packs) in
-    let last = stands_after tables desk.grid.slot w (masked payload w.rnti) (step tables desk grant) grants
-    (desk_kept tables desk grant (decided desk.ledger grant) refl h) stands in
-    heard_standing tables desk.grid.slot w grant payload (desk_after tables (step tables desk grant) grants) a.watch legal
-    known.spot.sound known.fitting packs last
+    let last = stands_after grants (step tables desk grant) (desk_kept tables desk grant (decided desk.ledger grant) refl h) stands in
+    heard_standing grant a.watch legal known.spot.sound known.fitting packs last
 
 -- an answer that tells a place is that of an entry
 pub accepted_of : (r : Result Accepted Refusal) (placed : Placed) → answer_of r ≡ Ok placed
@@ -213,16 +212,20 @@ accepted_of (Ok a) placed e = (a, refl, ap (λ (p : Placed). p.watch) (same_plac
     same_place p q f = cc
 accepted_of (Err refusal) placed e = absurd (let f : ⊥ = cc in f)
 
+-- the handsets stay
 pub members_kept : (ledger : LedgerValue) (r : Result Accepted Refusal) → (booked ledger r).members ≡ ledger.members
 members_kept ledger (Ok a) = refl
 members_kept ledger (Err refusal) = refl
 
+-- one place of a list has one grant
 pub same_grant : (a b : Grant) → Some a ≡ Some b → a ≡ b
 same_grant a b e = cc
 
+-- and one place of the answers one answer
 pub same_answer : (a b : Result Placed Refusal) → Some a ≡ Some b → a ≡ b
 same_answer a b e = cc
 
+-- the law: each accepted grant is heard on the grid that all leave
 pub heard_among : HearsEachAccepted
 unfolding fates desk_after
 heard_among tables desk [] i grant placed legal h e f = absurd (let g : ⊥ = cc in g)

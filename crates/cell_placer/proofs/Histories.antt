@@ -33,6 +33,7 @@ grid_after tables desk (grant ∷ grants) =
     grid_after tables (step tables desk grant) grants
     ∙ one_written tables desk.ledger (next desk.ledger grant) grant grants desk.grid (decided desk.ledger grant)
 
+-- the ledger after all grants
 pub ledger_of_after : (tables : Tables) (desk : DeskValue) (grants : List Grant)
     → (desk_after tables desk grants).ledger ≡ ledger_after desk.ledger grants
 unfolding desk_after ledger_after

@@ -138,6 +138,7 @@ new_is cell frame slot room (Ok members) desk legal m e =
     (new_known cell frame slot room members known)
 new_is cell frame slot room (Err over) desk legal m e = absurd (let f : ⊥ = cc in f)
 
+-- the law: a desk that was opened is one, with the handsets of the cell and a blank grid
 pub opens_a_desk : OpensADesk
 opens_a_desk cell frame slot room desk legal e =
     new_is cell frame slot room (members_at cell frame slot (range_with_len 0 (length cell.handsets))) desk legal refl e

@@ -40,26 +40,25 @@ or_later false b c = refl
 abbrev chosen : List (Option ℕ) → ℕ → ℕ → Option ℕ → Reg → Option ℕ
 chosen owners blocks symbol best r = least best (get_or owners (owner_place blocks symbol r) None)
 
-folded : (blocks last symbol : ℕ) (members : List Member) (accepted : List Accepted) (owners : List (Option ℕ))
-    (regs : List Reg) (p : Accepted → Bool)
-    → AreOwners blocks members accepted owners → AreCalls 0 last accepted → AreOn blocks symbol regs
-    → fold (chosen owners blocks symbol) (first_call p accepted) regs
-    ≡ first_call (λ a. p a || has_any members symbol regs a) accepted
-folded blocks last symbol members accepted owners [] p table calls on =
-    ap (option_map (λ (a : Accepted). a.call)) (find_alike p (λ a. p a || false) accepted (λ a. or_nothing (p a)))
-folded blocks last symbol members accepted owners (r ∷ regs) p table calls on =
-    let has : Accepted → Bool = λ a. has_reg (watch_of members a) (symbol + r.symbol) r.block in
-    let here = on 0 (omega arith) in
-    let one : chosen owners blocks symbol (first_call p accepted) r ≡ first_call (λ a. p a || has a) accepted =
-    ap (least (first_call p accepted)) (table.each (symbol + r.symbol) r.block here.0 here.1)
-    ∙ either_first p has 0 last accepted calls in
-    ap (λ best. fold (chosen owners blocks symbol) best regs) one
-    ∙ folded blocks last symbol members accepted owners regs (λ a. p a || has a) table calls
-    (λ j h. on (suc j) (omega (arith, h)))
-    ∙ ap (option_map (λ (a : Accepted). a.call))
-    (find_alike (λ a. (p a || has a) || has_any members symbol regs a)
-    (λ a. p a || (has a || has_any members symbol regs a)) accepted
-    (λ a. or_later (p a) (has a) (has_any members symbol regs a)))
+module _ {blocks : ℕ} (last : ℕ) {members : List Member} {accepted : List Accepted} {owners : List (Option ℕ)}
+    (table : AreOwners blocks members accepted owners) (calls : AreCalls 0 last accepted) where
+  folded : (symbol : ℕ) (regs : List Reg) (p : Accepted → Bool) → AreOn blocks symbol regs
+      → fold (chosen owners blocks symbol) (first_call p accepted) regs
+      ≡ first_call (λ a. p a || has_any members symbol regs a) accepted
+  folded symbol [] p on =
+      ap (option_map (λ (a : Accepted). a.call)) (find_alike p (λ a. p a || false) accepted (λ a. or_nothing (p a)))
+  folded symbol (r ∷ regs) p on =
+      let has : Accepted → Bool = λ a. has_reg (watch_of members a) (symbol + r.symbol) r.block in
+      let here = on 0 (omega arith) in
+      let one : chosen owners blocks symbol (first_call p accepted) r ≡ first_call (λ a. p a || has a) accepted =
+      ap (least (first_call p accepted)) (table.each (symbol + r.symbol) r.block here.0 here.1)
+      ∙ either_first p has 0 last accepted calls in
+      ap (λ best. fold (chosen owners blocks symbol) best regs) one
+      ∙ folded symbol regs (λ a. p a || has a) (λ j h. on (suc j) (omega (arith, h)))
+      ∙ ap (option_map (λ (a : Accepted). a.call))
+      (find_alike (λ a. (p a || has a) || has_any members symbol regs a)
+      (λ a. p a || (has a || has_any members symbol regs a)) accepted
+      (λ a. or_later (p a) (has a) (has_any members symbol regs a)))
 
 -- the least owner of a watch's REGs is the call of the first accepted grant that has one
 pub least_owner_is : (blocks last : ℕ) (members : List Member) (accepted : List Accepted) (owners : List (Option ℕ)) (w : Watch)
@@ -71,7 +70,7 @@ least_owner_is blocks last members accepted owners w table calls inside =
     let start : first_call never accepted
     ≡ None = ap (option_map (λ (a : Accepted). a.call)) (find_none never accepted (λ a. refl)) in
     ap (λ best. fold (chosen owners blocks w.symbol) best w.regs.items) (sym start)
-    ∙ folded blocks last w.symbol members accepted owners w.regs.items never table calls inside
+    ∙ folded last table calls w.symbol w.regs.items never inside
 
 -- two places of a table are one only for one symbol and one block
 same_place : (blocks s b t c : ℕ) → b < blocks → c < blocks → s * blocks + b ≡ t * blocks + c → (s ≡ t) × (b ≡ c)
@@ -96,55 +95,53 @@ length-taken call blocks symbol table (r ∷ regs) =
     length-taken call blocks symbol (taken call blocks symbol table r) regs
     ∙ length-set table (owner_place blocks symbol r) (Some call)
 
--- a place of the table after one REG is taken, by whether the REG stands there
-taken_at : (call blocks first s b : ℕ) (table : List (Option ℕ)) (r : Reg) (rest t : Bool) → first + r.symbol < 14
-    → r.block < blocks → length table ≡ 14 * blocks
-    → s < 14 → b < blocks → stands first s b r ≡ t
-    → cond rest (Some call) (get_or (taken call blocks first table r) (s * blocks + b) None)
-    ≡ cond (t || rest) (Some call) (get_or table (s * blocks + b) None)
-taken_at call blocks first s b table r rest true h k size l m e =
-    let parts = and_parts (first + r.symbol == s) (r.block == b) e in
-    let symbol : first + r.symbol ≡ s = eqb-true (first + r.symbol) s parts.0 in
-    let block : r.block ≡ b = eqb-true r.block b parts.1 in
-    let here : owner_place blocks first r ≡ s * blocks + b = ap (λ n. n * blocks + r.block) symbol
-    ∙ ap (λ n. s * blocks + n) block in
-    let inside : owner_place blocks first r < length table =
-    omega (arith, size, mul-add-lt (first + r.symbol) blocks r.block 14 h k) in
-    let P : ℕ → Type 0 = λ n. get_or (taken call blocks first table r) n None ≡ Some call in
-    let there = subst P here (get_or-set_same table (owner_place blocks first r) (Some call) None inside) in
-    ap (cond rest (Some call)) there ∙ both rest
-  where
-    both : (b : Bool) → cond b (Some call) (Some call) ≡ Some call
-    both true = refl
-    both false = refl
-taken_at call blocks first s b table r rest false h k size l m e =
-    let other : s * blocks + b ≢ owner_place blocks first r = λ same.
-    let parts = same_place blocks s b (first + r.symbol) r.block m k same in
-    let stood : stands first s b r ≡ true =
-    and_from (first + r.symbol == s) (r.block == b) (eq-eqb (first + r.symbol) s (sym parts.0))
-    (eq-eqb r.block b (sym parts.1)) in
-    let clash : false ≡ true = sym e ∙ stood in cc in
-    ap (cond rest (Some call)) (get_or-set_other table (owner_place blocks first r) (s * blocks + b) (Some call) None other)
+module _ (call blocks first s b : ℕ) (symbol_in : s < 14) (block_in : b < blocks) where
+  -- a place of the table after one REG is taken, by whether the REG stands there
+  taken_at : (table : List (Option ℕ)) (r : Reg) (rest t : Bool) → first + r.symbol < 14 → r.block < blocks
+      → length table ≡ 14 * blocks → stands first s b r ≡ t
+      → cond rest (Some call) (get_or (taken call blocks first table r) (s * blocks + b) None)
+      ≡ cond (t || rest) (Some call) (get_or table (s * blocks + b) None)
+  taken_at table r rest true h k size e =
+      let parts = and_parts (first + r.symbol == s) (r.block == b) e in
+      let symbol : first + r.symbol ≡ s = eqb-true (first + r.symbol) s parts.0 in
+      let block : r.block ≡ b = eqb-true r.block b parts.1 in
+      let here : owner_place blocks first r ≡ s * blocks + b = ap (λ n. n * blocks + r.block) symbol
+      ∙ ap (λ n. s * blocks + n) block in
+      let inside : owner_place blocks first r < length table =
+      omega (arith, size, mul-add-lt (first + r.symbol) blocks r.block 14 h k) in
+      let P : ℕ → Type 0 = λ n. get_or (taken call blocks first table r) n None ≡ Some call in
+      let there = subst P here (get_or-set_same table (owner_place blocks first r) (Some call) None inside) in
+      ap (cond rest (Some call)) there ∙ both rest
+    where
+      both : (c : Bool) → cond c (Some call) (Some call) ≡ Some call
+      both true = refl
+      both false = refl
+  taken_at table r rest false h k size e =
+      let other : s * blocks + b ≢ owner_place blocks first r = λ same.
+      let parts = same_place blocks s b (first + r.symbol) r.block block_in k same in
+      let stood : stands first s b r ≡ true =
+      and_from (first + r.symbol == s) (r.block == b) (eq-eqb (first + r.symbol) s (sym parts.0))
+      (eq-eqb r.block b (sym parts.1)) in
+      let clash : false ≡ true = sym e ∙ stood in cc in
+      ap (cond rest (Some call)) (get_or-set_other table (owner_place blocks first r) (s * blocks + b) (Some call) None other)
 
--- a place of the table after all are
-all_taken : (call blocks first s b : ℕ) (table : List (Option ℕ)) (regs : List Reg) → AreOn blocks first regs
-    → length table ≡ 14 * blocks → s < 14 → b < blocks
-    → get_or (fold (taken call blocks first) table regs) (s * blocks + b) None
-    ≡ cond (list_any (stands first s b) regs) (Some call) (get_or table (s * blocks + b) None)
-all_taken call blocks first s b table [] on size l m = refl
-all_taken call blocks first s b table (r ∷ regs) on size l m =
-    let here = on 0 (omega arith) in
-    let after = taken call blocks first table r in
-    all_taken call blocks first s b after regs (λ j h. on (suc j) (omega (arith, h)))
-    (length-set table (owner_place blocks first r) (Some call) ∙ size) l m
-    ∙ taken_at call blocks first s b table r (list_any (stands first s b) regs) (stands first s b r) here.0 here.1 size l m refl
+  -- a place of the table after all are
+  all_taken : (table : List (Option ℕ)) (regs : List Reg) → AreOn blocks first regs → length table ≡ 14 * blocks
+      → get_or (fold (taken call blocks first) table regs) (s * blocks + b) None
+      ≡ cond (list_any (stands first s b) regs) (Some call) (get_or table (s * blocks + b) None)
+  all_taken table [] on size = refl
+  all_taken table (r ∷ regs) on size =
+      let here = on 0 (omega arith) in
+      all_taken (taken call blocks first table r) regs (λ j h. on (suc j) (omega (arith, h)))
+      (length-set table (owner_place blocks first r) (Some call) ∙ size)
+      ∙ taken_at table r (list_any (stands first s b) regs) (stands first s b r) here.0 here.1 size refl
 
--- of two watches that have one REG, one shares it with the other
 or_true : (b c : Bool) → (b ≡ true) ⊎ (c ≡ true) → (b || c) ≡ true
 or_true true c h = refl
 or_true false c (inl h) = cc
 or_true false c (inr h) = h
 
+-- of two watches that have the REG in a symbol and a block, one shares it with the other
 pub share : (v : Watch) (first s b : ℕ) (regs : List Reg) → list_any (stands first s b) regs ≡ true → has_reg v s b ≡ true
     → list_any (λ (r : Reg). has_reg v (first + r.symbol) r.block) regs ≡ true
 share v first s b [] e h = cc
@@ -177,7 +174,7 @@ owned_is blocks members accepted owners a table inside free =
       size = length-taken a.call blocks w.symbol owners w.regs.items ∙ table.size;
       each = λ s b h k.
           let has : Accepted → Bool = λ x. has_reg (watch_of members x) s b in
-          all_taken a.call blocks w.symbol s b owners w.regs.items inside table.size h k
+          all_taken a.call blocks w.symbol s b h k owners w.regs.items inside table.size
           ∙ ap (cond (has_reg w s b) (Some a.call)) (table.each s b h k)
           ∙ by s b (has_reg w s b) refl
           ∙ ap (option_map (λ (x : Accepted). x.call)) (sym (find-append has accepted (a ∷ [])));

@@ -14,6 +14,7 @@ pub record Suits (grant : Grant) (w : Watch) : Type 0 where
   pub set : w.set ≡ grant.set
   pub fitting : fits w grant.format ≡ true
 
+-- so it is with each that passes the test
 pub suits : (grant : Grant) (w : Watch) → is_suitable grant w ≡ true → Suits grant w
 suits grant w e =
     let asked = is_asked grant.candidate w.candidate && is_asked grant.symbol w.symbol in
@@ -28,6 +29,7 @@ first_suits grant watches k e =
     let found = position-Some (is_suitable grant) watches k no_watch e in
     (found.0, suits grant (watch_at watches k) found.1)
 
+-- the format fits the watch that is found at its place
 pub first_fits : (grant : Grant) (watches : List Watch) (k : ℕ) (w : Watch) → position (is_suitable grant) watches ≡ Some k
     → w ≡ get_or watches k w
     → fits w grant.format ≡ true

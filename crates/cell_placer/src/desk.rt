@@ -56,7 +56,7 @@ impl Desk {
             ↔ (opened cell.now frame slot room ≡ Err (slot_over handset candidates cces)) }
         ensures desk { IfOk result (λ desk. IsDesk desk) }
     {
-        desk_of(alloc, cell, frame, slot, room)
+        open_core(alloc, cell, frame, slot, room)
     }
 
     /// Places a grant: it is written at its first suitable watch that is free, or refused for the first cause against it.
@@ -99,7 +99,13 @@ impl Desk {
 }
 
 /// The desk of a slot, or why there is none.
-fn desk_of(alloc: Global, cell: &Cell, frame: u16, slot: u16, room: u32) -> Result<Desk, DeskFault>
+fn open_core(
+    alloc: Global,
+    cell: &Cell,
+    frame: u16,
+    slot: u16,
+    room: u32,
+) -> Result<Desk, DeskFault>
     requires frame { frame ≤ 1023 }
     requires slot { slot < 10 * 2 ^ cell.now.mu }
     requires room { room ≤ 4096 }

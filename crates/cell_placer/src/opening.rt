@@ -33,7 +33,7 @@ pub(crate) fn members_of(
         (members_at cell.now frame slot (range_with_len 0 (length cell.now.handsets)))) }
 {
     let mut members = Vec::new(alloc);
-    for handset in 0..cell.raw().handsets.as_slice().len() {
+    for handset in 0..count_of(cell) {
         let Ok(plan) = Plan::of(alloc, cell, handset, frame, slot) else {
             return Err(fault_from(cell, handset, frame, slot));
         };
@@ -53,7 +53,7 @@ fn fault_from(cell: &Cell, from: usize, frame: u16, slot: u16) -> DeskFault
     requires slot { slot < 10 * 2 ^ cell.now.mu }
     ensures { Tells result (members_at cell.now frame slot (range_with_len from (length cell.now.handsets - from))) }
 {
-    for handset in from..cell.raw().handsets.as_slice().len() {
+    for handset in from..count_of(cell) {
         if let Err(over) = allot(cell, handset, &sizes(cell, handset), frame, slot) {
             return DeskFault::CommonOver {
                 handset: handset as u16,
@@ -63,6 +63,14 @@ fn fault_from(cell: &Cell, from: usize, frame: u16, slot: u16) -> DeskFault
         }
     }
     DeskFault::NoMemory
+}
+
+/// How many handsets a cell has.
+fn count_of(cell: &Cell) -> usize
+    ensures count { result ≡ length cell.now.handsets }
+    ensures most { result ≤ 64 }
+{
+    cell.raw().handsets.as_slice().len()
 }
 
 /// The handset at a place of the cell's list with its plan in a slot.

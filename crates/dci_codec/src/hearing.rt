@@ -34,11 +34,11 @@ pub fn hear(tables: &Tables, watch: &Watch, number: u32, grid: &Grid) -> Result<
     ensures found { result_ok result ≡ heard_at tables.now grid.now watch.now number }
     ensures answer { result ≡ answer_at tables.now grid.now watch.now number }
 {
-    hear_fields(tables, watch, number, grid)
+    hear_core(tables, watch, number, grid)
 }
 
 /// The same, stage by stage: the payload, then the format that it is of.
-fn hear_fields(tables: &Tables, watch: &Watch, number: u32, grid: &Grid) -> Result<Heard, Silence>
+fn hear_core(tables: &Tables, watch: &Watch, number: u32, grid: &Grid) -> Result<Heard, Silence>
     requires sound { IsSound watch.now }
     requires inside { IsInside grid.now.blocks watch.now }
     ensures answer { IsAnswer tables.now grid.now watch.now number result }

@@ -7,8 +7,8 @@ use Rattle.slot_grid.specs.declared.places.Point.{Point}
 use Rattle.slot_grid.specs.Grid.{GridValue}
 use Rattle.slot_grid.proofs.Images.{IsWithin, AreCompatible}
 use Rattle.coreset_map.specs.declared.places.Reg.{Reg}
-use Rattle.coreset_map.specs.RegOrder.{reg_at, AreRegs}
-use Rattle.dmrs_qpsk.specs.PointsOnGrid.{reg_point, which_reg, image_of, AreInside}
+use Rattle.coreset_map.specs.RegOrder.{AreInside, AreRegs, reg_at}
+use Rattle.dmrs_qpsk.specs.PointsOnGrid.{reg_point, which_reg, image_of}
 use Rattle.dmrs_qpsk.proofs.RegPuts.{reg_apart}
 use Rattle.dmrs_qpsk.proofs.RegNumbers.{reg_cases}
 
@@ -51,7 +51,7 @@ image_at slot first id regs bits j k apart h l =
     ∙ ap (λ m. Some (point reg.block j m)) place
 
 -- where the REGs are on the grid, so is the image
-pub image_within : (grid : GridValue) (slot first id : ℕ) (regs : List Reg) (bits : List Bool) → AreInside grid first regs
+pub image_within : (grid : GridValue) (slot first id : ℕ) (regs : List Reg) (bits : List Bool) → AreInside first grid.blocks regs
     → IsWithin grid (image_of slot first id regs bits)
 unfolding image_of
 image_within grid slot first id regs bits inside s c p e =

@@ -10,22 +10,11 @@ use Rattle.dmrs_qpsk.specs.ReferencePoints.{reference}
 abbrev references : ℕ → ℕ → ℕ → ℕ → List Point
 references slot symbol id block = map (reference slot symbol id block) (range_with_len 0 3)
 
-first_block : references 0 0 500 0 ≡ P01 ∷ P01 ∷ P00 ∷ []
+-- those of the first and the eighth block of a carrier, of the last block of the largest one, of a block in the last symbol of
+-- slot 79, and of one with a small identity
+rows :
+    references 0 0 500 0 ∷ references 0 0 500 7 ∷ references 19 2 65535 274 ∷ references 79 13 0 100 ∷ references 5 1 7 3 ∷ []
+    ≡ (P01 ∷ P01 ∷ P00 ∷ []) ∷ (P00 ∷ P00 ∷ P11 ∷ []) ∷ (P01 ∷ P10 ∷ P11 ∷ []) ∷ (P10 ∷ P00 ∷ P10 ∷ [])
+    ∷ (P10 ∷ P11 ∷ P01 ∷ []) ∷ []
 unfolding reference state1 state2 x1 x2 gold
-first_block = refl
-
-eighth_block : references 0 0 500 7 ≡ P00 ∷ P00 ∷ P11 ∷ []
-unfolding reference state1 state2 x1 x2 gold
-eighth_block = refl
-
-last_block : references 19 2 65535 274 ≡ P01 ∷ P10 ∷ P11 ∷ []
-unfolding reference state1 state2 x1 x2 gold
-last_block = refl
-
-last_symbol : references 79 13 0 100 ≡ P10 ∷ P00 ∷ P10 ∷ []
-unfolding reference state1 state2 x1 x2 gold
-last_symbol = refl
-
-small_id : references 5 1 7 3 ≡ P10 ∷ P11 ∷ P01 ∷ []
-unfolding reference state1 state2 x1 x2 gold
-small_id = refl
+rows = refl

@@ -15,8 +15,8 @@ use Rattle.dmrs_qpsk.specs.declared.taking.Flaw.TheVariants.{Empty, Reference}
 use Rattle.coreset_map.specs.declared.places.Reg.{Reg}
 use Rattle.dmrs_qpsk.specs.Modulation.{point_of}
 use Rattle.coreset_map.specs.DataPlaces.{is_reference}
-use Rattle.coreset_map.specs.RegOrder.{reg_at, AreRegs}
-use Rattle.dmrs_qpsk.specs.PointsOnGrid.{data_rank, reg_point, image_of, AreInside}
+use Rattle.coreset_map.specs.RegOrder.{AreInside, AreRegs, reg_at}
+use Rattle.dmrs_qpsk.specs.PointsOnGrid.{data_rank, reg_point, image_of}
 use Rattle.dmrs_qpsk.specs.Held.{Holds, IsFlawed, IsBad, IsFirstBad}
 use Rattle.dmrs_qpsk.proofs.BlockPlaces.{data_rank_back, is_data}
 use Rattle.dmrs_qpsk.proofs.ImagesOnGrid.{image_at, image_within}
@@ -209,7 +209,7 @@ one_first grid first id regs a b g h =
     ∙ ap (λ x. bad_place b.symbol b.subcarrier x) flaw
 
 -- a grid on which bits were written holds them
-pub held_after : (grid : GridValue) (first id : ℕ) (regs : List Reg) (bits : List Bool) → AreInside grid first regs
+pub held_after : (grid : GridValue) (first id : ℕ) (regs : List Reg) (bits : List Bool) → AreInside first grid.blocks regs
     → length bits ≡ 18 * length regs
     → Holds (overwritten (image_of grid.slot first id regs bits) grid) first id regs bits
 unfolding overwritten
@@ -218,11 +218,12 @@ held_after grid first id regs bits inside size =
     (size, agrees_overwritten image grid (image_within grid grid.slot first id regs bits inside))
 
 -- what is read: bits that the grid holds, or its first bad place
-abbrev IsTaken : GridValue → ℕ → ℕ → List Reg → Result (List Bool) BadPlace → Type 0
+abbrev pub IsTaken : GridValue → ℕ → ℕ → List Reg → Result (List Bool) BadPlace → Type 0
 IsTaken grid first id regs (Ok bits) = Holds grid first id regs bits
 IsTaken grid first id regs (Err bad) = IsFirstBad grid first id regs bad
 
-is_taken : (grid : GridValue) (first id : ℕ) (regs : List Reg) (result : Result (List Bool) BadPlace)
+-- so it is where it is so in each of the two cases
+pub is_taken : (grid : GridValue) (first id : ℕ) (regs : List Reg) (result : Result (List Bool) BadPlace)
     → IfOk result (Holds grid first id regs)
     → IfErr result (IsFirstBad grid first id regs) → IsTaken grid first id regs result
 is_taken grid first id regs (Ok bits) g h = g
@@ -238,16 +239,12 @@ one_taken grid first id regs (Err a) (Err b) apart g h = ap (λ x. Err x) (one_f
 
 -- the answer is bits exactly where the grid holds them
 pub bits_exactly : (grid : GridValue) (first id : ℕ) (regs : List Reg) (result : Result (List Bool) BadPlace) → AreRegs regs
-    → IfOk result (Holds grid first id regs) → IfErr result (IsFirstBad grid first id regs) → (bits : List Bool)
-    → (result ≡ Ok bits) ↔ Holds grid first id regs bits
-bits_exactly grid first id regs result apart g h bits =
-    let taken = is_taken grid first id regs result g h in
+    → IsTaken grid first id regs result → (bits : List Bool) → (result ≡ Ok bits) ↔ Holds grid first id regs bits
+bits_exactly grid first id regs result apart taken bits =
     (λ e. subst (IsTaken grid first id regs) e taken, λ k. one_taken grid first id regs result (Ok bits) apart taken k)
 
 -- the answer is a bad place exactly where it is the first
 pub bad_exactly : (grid : GridValue) (first id : ℕ) (regs : List Reg) (result : Result (List Bool) BadPlace) → AreRegs regs
-    → IfOk result (Holds grid first id regs) → IfErr result (IsFirstBad grid first id regs) → (bad : BadPlace)
-    → (result ≡ Err bad) ↔ IsFirstBad grid first id regs bad
-bad_exactly grid first id regs result apart g h bad =
-    let taken = is_taken grid first id regs result g h in
+    → IsTaken grid first id regs result → (bad : BadPlace) → (result ≡ Err bad) ↔ IsFirstBad grid first id regs bad
+bad_exactly grid first id regs result apart taken bad =
     (λ e. subst (IsTaken grid first id regs) e taken, λ k. one_taken grid first id regs result (Err bad) apart taken k)

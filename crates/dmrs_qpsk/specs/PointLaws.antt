@@ -6,16 +6,16 @@ use Rattle.slot_grid.specs.Image.{overwritten}
 use Rattle.coreset_map.specs.declared.places.Reg.{Reg}
 use Rattle.coreset_map.specs.declared.places.Spot.{Spot}
 use Rattle.coreset_map.specs.DataPlaces.{data_places}
-use Rattle.coreset_map.specs.RegOrder.{AreRegs, AreWithin, reg_at}
+use Rattle.coreset_map.specs.RegOrder.{AreInside, AreRegs, AreWithin, reg_at}
 use Rattle.dmrs_qpsk.specs.Held.{Holds}
 use Rattle.dmrs_qpsk.specs.Modulation.{point_of}
-use Rattle.dmrs_qpsk.specs.PointsOnGrid.{AreInside, image_of}
+use Rattle.dmrs_qpsk.specs.PointsOnGrid.{image_of}
 use Rattle.dmrs_qpsk.specs.ReferencePoints.{reference}
 
 -- a grid on which bits were put holds these bits and no others
 abbrev pub HoldsWhatWasPut : Type 0
 HoldsWhatWasPut =
-    (grid : GridValue) (first id : ℕ) (regs : List Reg) (bits other : List Bool) → AreRegs regs → AreInside grid first regs →
+    (grid : GridValue) (first id : ℕ) (regs : List Reg) (bits other : List Bool) → AreRegs regs → AreInside first grid.blocks regs →
     length bits ≡ 18 * length regs →
     Holds (overwritten (image_of grid.slot first id regs bits) grid) first id regs other ↔ (other ≡ bits)
 

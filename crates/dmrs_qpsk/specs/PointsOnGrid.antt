@@ -1,15 +1,13 @@
 -- Coded bits on the grid (3GPP TS 38.211, 7.3.2.4, 7.3.2.5 and 7.4.1.3.2): each REG of a candidate has reference points
 -- at subcarriers 1, 5 and 9, and the QPSK points of the bits at its nine others.
-use Rattle.std.specs.Prelude.{ℕ, suc, ◌+◌, ◌*◌, ◌/◌, ◌%◌, ◌<◌, Bool, cond, not, ◌&&◌, ◌==◌}
-use Rattle.std.specs.Prelude.{List, [], ◌∷◌, Option, Some, None, option_map, length}
+use Rattle.std.specs.Prelude.{ℕ, suc, ◌+◌, ◌*◌, ◌/◌, ◌%◌, Bool, cond, not, ◌&&◌, ◌==◌}
+use Rattle.std.specs.Prelude.{List, [], ◌∷◌, Option, Some, None, option_map}
 use Rattle.list_facts.specs.Counting.{count_below}
 use Rattle.bits_core.specs.Bits.{bit_of}
 use Rattle.slot_grid.specs.declared.places.Point.{Point}
-use Rattle.slot_grid.specs.Grid.{GridValue}
 use Rattle.slot_grid.specs.Image.{Image}
 use Rattle.coreset_map.specs.declared.places.Reg.{Reg}
 use Rattle.coreset_map.specs.DataPlaces.{is_reference}
-use Rattle.coreset_map.specs.RegOrder.{reg_at}
 use Rattle.dmrs_qpsk.specs.Modulation.{point_of}
 use Rattle.dmrs_qpsk.specs.ReferencePoints.{reference}
 
@@ -38,8 +36,3 @@ which_reg first (reg ∷ regs) symbol block =
 unfoldable pub image_of : ℕ → ℕ → ℕ → List Reg → List Bool → Image
 image_of slot first id regs bits s c =
     option_map (λ j. reg_point slot s id (c / 12) bits j (c % 12)) (which_reg first regs s (c / 12))
-
--- each REG is on the grid, where the list begins in symbol `first`
-abbrev pub AreInside : GridValue → ℕ → List Reg → Type 0
-AreInside grid first regs =
-    (j : ℕ) → j < length regs → (first + (reg_at regs j).symbol < 14) × ((reg_at regs j).block < grid.blocks)

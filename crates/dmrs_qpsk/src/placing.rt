@@ -1,8 +1,8 @@
 //! Bits on the places of a candidate.
 ghost use Rattle.std.specs.Prelude.{◌≡◌, ◌+◌, ◌*◌, ◌<◌, ◌≤◌, length};
 ghost use Rattle.slot_grid.specs.Image.{overwritten};
-ghost use Rattle.coreset_map.specs.RegOrder.{AreRegs};
-ghost use Rattle.dmrs_qpsk.specs.PointsOnGrid.{reg_point, image_of, AreInside};
+ghost use Rattle.coreset_map.specs.RegOrder.{AreInside, AreRegs};
+ghost use Rattle.dmrs_qpsk.specs.PointsOnGrid.{reg_point, image_of};
 ghost use Rattle.dmrs_qpsk.specs.Placed.{IsRegPut, AreRegsPut};
 
 use crate::reference::{
@@ -19,19 +19,19 @@ use slot_grid::{Grid, Point};
 /// `first` of the slot. `id` is the scrambling identity of the reference points.
 pub fn put_bits(grid: &mut Grid, first: u8, regs: &ArrayVec<Reg, 96>, id: u16, bits: &Coded)
     requires regs { AreRegs regs.now.items }
-    requires inside { AreInside grid.old first regs.now.items }
+    requires inside { AreInside first grid.old.blocks regs.now.items }
     requires bits { length bits.now ≡ 18 * length regs.now.items }
     ensures blocks { grid.new.blocks ≡ grid.old.blocks }
     ensures slot { grid.new.slot ≡ grid.old.slot }
     ensures grid { grid.new ≡ overwritten (image_of grid.old.slot first id regs.now.items bits.now) grid.old }
 {
-    put_regs(grid, first, regs.as_slice(), id, bits);
+    put_bits_core(grid, first, regs.as_slice(), id, bits);
 }
 
 /// Writes the points of each REG.
-fn put_regs(grid: &mut Grid, first: u8, regs: &[Reg], id: u16, bits: &Coded)
+fn put_bits_core(grid: &mut Grid, first: u8, regs: &[Reg], id: u16, bits: &Coded)
     requires regs { AreRegs regs.now }
-    requires inside { AreInside grid.old first regs.now }
+    requires inside { AreInside first grid.old.blocks regs.now }
     requires bits { length bits.now ≡ 18 * length regs.now }
     ensures places { AreRegsPut first id regs.now bits.now (length regs.now) grid.old grid.new }
     ensures size { length grid.old.points ≡ 14 * (12 * grid.old.blocks) }

@@ -4,8 +4,7 @@ ghost use Rattle.slot_grid.specs.declared.places.Point.TheVariants.{Empty as NoP
 ghost use Rattle.slot_grid.specs.Grid.{point_at};
 ghost use Rattle.dmrs_qpsk.specs.declared.taking.BadPlace.{BadPlace};
 ghost use Rattle.dmrs_qpsk.specs.Modulation.{point_of};
-ghost use Rattle.coreset_map.specs.RegOrder.{AreRegs};
-ghost use Rattle.dmrs_qpsk.specs.PointsOnGrid.{AreInside};
+ghost use Rattle.coreset_map.specs.RegOrder.{AreInside, AreRegs};
 ghost use Rattle.dmrs_qpsk.specs.Held.{Holds, IsFlawed, IsFirstBad};
 ghost use Rattle.dmrs_qpsk.specs.Taken.{IsPointTaken};
 
@@ -45,18 +44,18 @@ pub fn take_bits(
     id: u16,
 ) -> Result<Coded, BadPlace>
     requires regs { AreRegs regs.now.items }
-    requires inside { AreInside grid.now first regs.now.items }
+    requires inside { AreInside first grid.now.blocks regs.now.items }
     ensures bits { (bits : List Bool) → (result ≡ Ok bits) ↔ Holds grid.now first id regs.now.items bits }
     ensures bad { (bad : BadPlace) → (result ≡ Err bad) ↔ IsFirstBad grid.now first id regs.now.items bad }
     ensures length { IfOk result (λ bits. length bits ≡ 18 * length regs.now.items) }
 {
-    take_regs(grid, first, regs.as_slice(), id)
+    take_bits_core(grid, first, regs.as_slice(), id)
 }
 
 /// The bits on each REG.
-fn take_regs(grid: &Grid, first: u8, regs: &[Reg], id: u16) -> Result<Coded, BadPlace>
+fn take_bits_core(grid: &Grid, first: u8, regs: &[Reg], id: u16) -> Result<Coded, BadPlace>
     requires regs { AreRegs regs.now }
-    requires inside { AreInside grid.now first regs.now }
+    requires inside { AreInside first grid.now.blocks regs.now }
     requires few { length regs.now ≤ 96 }
     ensures bits { IfOk result (λ bits. Holds grid.now first id regs.now bits) }
     ensures bad { IfErr result (λ bad. IsFirstBad grid.now first id regs.now bad) }

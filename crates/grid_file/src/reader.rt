@@ -14,7 +14,7 @@ use slot_grid::Grid;
 use std::alloc::Global;
 
 /// The grid whose text the bytes are, or why there is none.
-fn grid_in(alloc: Global, bytes: &[u8]) -> Result<Grid, GridError>
+fn read_grid_core(alloc: Global, bytes: &[u8]) -> Result<Grid, GridError>
     ensures read { IfOk result (λ grid. IsTextOf grid bytes.now) }
     ensures why { IfErr result (λ error. IsWhy bytes.now error) }
 {
@@ -47,5 +47,5 @@ pub fn read_grid(alloc: Global, bytes: &[u8]) -> Result<Grid, GridError>
     ensures fault { (at : ℕ) → result ≡ Err (fault_at at) → LeavesAt IsGridText bytes.now at }
     ensures found { IsReading (reading_of bytes.now) result }
 {
-    grid_in(alloc, bytes)
+    read_grid_core(alloc, bytes)
 }

@@ -44,7 +44,7 @@ fn push_symbol(text: &mut Vec<u8>, grid: &Grid, symbol: u8) -> Result<(), AllocE
 
 /// The text of a grid.
 #[tactic(auto, unfolding(crate::specs::GridText::grid_text))]
-fn text_of(alloc: Global, grid: &Grid) -> Result<Vec<u8>, AllocError>
+fn write_grid_core(alloc: Global, grid: &Grid) -> Result<Vec<u8>, AllocError>
     ensures { IfOk result (λ text. text.items ≡ grid_text grid.now) }
 {
     let mut text = head_of(alloc, grid)?;
@@ -60,7 +60,7 @@ fn text_of(alloc: Global, grid: &Grid) -> Result<Vec<u8>, AllocError>
 pub fn write_grid(alloc: Global, grid: &Grid) -> Result<Vec<u8>, NoMemory>
     ensures { IfOk result (λ text. text.items ≡ grid_text grid.now) }
 {
-    match text_of(alloc, grid) {
+    match write_grid_core(alloc, grid) {
         Ok(text) => Ok(text),
         Err(_) => Err(NoMemory),
     }

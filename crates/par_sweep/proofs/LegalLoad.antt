@@ -29,6 +29,7 @@ named h l =
     ∙ AllPass-from_list_all (λ h. is_name (handset_name h)) (range_with_len 0 32) names_of_all h 0
     (omega (arith, l, length-range_with_len 0 32))
 
+-- it has 32 handsets
 pub count_of_handsets : length load_cell.handsets ≡ 32
 unfolding load_cell
 count_of_handsets = refl
@@ -51,6 +52,7 @@ unfolding cell_conflicts handset_conflicts downlink_conflicts uplink_conflicts s
     asks_above ends_after_slot reaches_outside groups_of conflict unless load_cell handset_name digits
 conflicts_none = refl
 
+-- so the cell is legal
 pub legal : IsLegal load_cell
 unfolding first_fault
 legal =

@@ -95,11 +95,7 @@ has_desk frame slot =
     let members = has_members frame slot 0 n (omega (arith, count_of_handsets)) in
     record { value = _; is = ap (new_desk load_cell frame slot 64) members.is }
 
--- the desk of each slot is new
-pub record IsNew (t : ℕ) : Type 0 where
-  pub calls : (slot_desk t).ledger.calls ≡ 0
-  pub blocks : (slot_desk t).grid.blocks ≡ 273
-
+-- the law: in each slot there is a desk, and each handset has a plan
 pub plans_every_slot : PlansEverySlot
 unfolding slot_desk slot_watches
 plans_every_slot t = record {

@@ -7,21 +7,21 @@ use Rattle.std.proofs.lemmas.List.FromFn.{length-map-range_with_len, get_or-map-
 use Rattle.std.proofs.lemmas.List.Sums.{sum-map}
 
 -- one number more
-pub made_more : {X : Type 0} (f : ℕ → X) (n : ℕ) (old new : List X) (x : X) → old ≡ map f (range_with_len 0 n)
+pub made_more : {X : Type 0} (f : ℕ → X) (n : ℕ) {old new : List X} {x : X} → old ≡ map f (range_with_len 0 n)
     → new ≡ old ++ x ∷ [] → x ≡ f n
     → new ≡ map f (range_with_len 0 (n + 1))
-made_more {X = X} f n old new x e a h =
+made_more {X} f n {old} {new} {x} e a h =
     a ∙ ap (λ (xs : List X). xs ++ x ∷ []) e ∙ ap (λ (y : X). map f (range_with_len 0 n) ++ y ∷ []) h
     ∙ sym (map-range_with_len_more f 0 n n (omega arith))
 
 -- the same behind what was there
-pub made_behind : {X : Type 0} (f : ℕ → X) (n : ℕ) (first old new : List X) (x : X)
+pub made_behind : {X : Type 0} (f : ℕ → X) (n : ℕ) (first : List X) {old new : List X} {x : X}
     → old ≡ first ++ map f (range_with_len 0 n) → new ≡ old ++ x ∷ [] → x ≡ f n
     → new ≡ first ++ map f (range_with_len 0 (n + 1))
-made_behind {X = X} f n first old new x e a h =
+made_behind {X} f n first {old} {new} {x} e a h =
     a ∙ ap (λ (xs : List X). xs ++ x ∷ []) e ∙ append_assoc first (map f (range_with_len 0 n)) (x ∷ [])
     ∙ ap (λ (xs : List X). first ++ xs)
-    (made_more f n (map f (range_with_len 0 n)) (map f (range_with_len 0 n) ++ x ∷ []) x refl refl h)
+    (made_more f n refl refl h)
 
 -- functions that agree on the numbers make the same list
 pub made_same : {X : Type 0} (f g : ℕ → X) (a b n : ℕ) → ((i : ℕ) → i < n → f (a + i) ≡ g (b + i))

@@ -27,12 +27,13 @@ use Rattle.par_sweep.proofs.Ranges.{made_more, made_same, part_made, sums_same}
 use Rattle.par_sweep.proofs.SlotDesks.{blocks_of}
 
 -- one job more is searched
-pub searched_more : (tables : Tables) (grids : List GridValue) (first now : List Job) (place : ℕ) (job searched : Job)
+pub searched_more : (tables : Tables) (grids : List GridValue) (first : List Job) (place : ℕ) {now : List Job}
+    {job searched : Job}
     → place < length first
     → now ≡ map (job_searched tables grids) (take place first) ++ drop place first → job ≡ get_or now place job
     → searched ≡ job_searched tables grids (get_or now place job)
     → slice_set now place searched ≡ map (job_searched tables grids) (take (place + 1) first) ++ drop (place + 1) first
-searched_more tables grids first now place job searched within so_far there is =
+searched_more tables grids first place {now} {job} {searched} within so_far there is =
     ap (λ (j : Job). slice_set now place j) (is ∙ ap (job_searched tables grids) (sym there))
     ∙ map_over_more (job_searched tables grids) first now place job within so_far there
 
@@ -73,10 +74,11 @@ all_numbers P n h = λ i d l.
     let here : get_or (range_with_len 0 n) i d ≡ i = get_or-range_with_len 0 n i d within ∙ omega arith in
     subst P (sym here) (h i within)
 
-pub all_can_search : (tables : Tables) (slots : ℕ) (grids : List GridValue) (jobs : List Job) → slots ≤ 200
+-- and each of some jobs can
+pub all_can_search : (tables : Tables) (slots : ℕ) {grids : List GridValue} {jobs : List Job} → slots ≤ 200
     → grids ≡ map (slot_grid tables) (range_with_len 0 slots)
     → jobs ≡ map job_at (range_with_len 0 (32 * slots)) → All (CanSearch grids) jobs
-all_can_search tables slots grids jobs few g j =
+all_can_search tables slots {grids} {jobs} few g j =
     let made = map (slot_grid tables) (range_with_len 0 slots) in
     let all : All (CanSearch made) (map job_at (range_with_len 0 (32 * slots))) =
     All-map (CanSearch made) job_at (range_with_len 0 (32 * slots))
@@ -84,16 +86,16 @@ all_can_search tables slots grids jobs few g j =
     subst (λ (gs : List GridValue). All (CanSearch gs) jobs) (sym g)
     (subst (λ (js : List Job). All (CanSearch made) js) (sym j) all)
 
--- the jobs after their search
 map_twice : (f : Job → Job) (g : ℕ → Job) (xs : List ℕ) → map f (map g xs) ≡ map (λ k. f (g k)) xs
 map_twice f g [] = refl
 map_twice f g (x ∷ xs) = ap (λ ys. f (g x) ∷ ys) (map_twice f g xs)
 
-pub all_searched : (tables : Tables) (slots : ℕ) (grids : List GridValue) (old new : List Job)
+-- the jobs after their search
+pub all_searched : (tables : Tables) (slots : ℕ) {grids : List GridValue} {old new : List Job}
     → grids ≡ map (slot_grid tables) (range_with_len 0 slots)
     → old ≡ map job_at (range_with_len 0 (32 * slots)) → new ≡ map (job_searched tables grids) old
     → new ≡ map (searched_at tables) (range_with_len 0 (32 * slots))
-all_searched tables slots grids old new g j s =
+all_searched tables slots {grids} {old} {new} g j s =
     let made = map (slot_grid tables) (range_with_len 0 slots) in
     let numbers = range_with_len 0 (32 * slots) in
     s ∙ ap (λ (gs : List GridValue). map (job_searched tables gs) old) g ∙ ap (map (job_searched tables made)) j
@@ -122,20 +124,21 @@ jobs_there tables slots t jobs h j =
     ∙ part_made (searched_at tables) (32 * slots) (t * 32) ((t + 1) * 32) (omega arith) (omega (arith, h))
     ∙ ap (λ (n : ℕ). map (searched_at tables) (range_with_len (t * 32) n)) length_is
 
-pub all_few : (tables : Tables) (slots t : ℕ) (jobs : List Job) → t < slots
+-- each of them has found few
+pub all_few : (tables : Tables) (slots t : ℕ) {jobs : List Job} → t < slots
     → jobs ≡ map (searched_at tables) (range_with_len 0 (32 * slots))
     → All HasFew (slice_range jobs (t * 32) ((t + 1) * 32))
-all_few tables slots t jobs h j =
+all_few tables slots t {jobs} h j =
     subst (λ (js : List Job). All HasFew js) (sym (jobs_there tables slots t jobs h j))
     (All-map HasFew (searched_at tables) (range_with_len (t * 32) 32)
     (λ i d l. few_found tables (get_or (range_with_len (t * 32) 32) i d)))
 
 -- what they find
-pub all_found : (tables : Tables) (slots t : ℕ) (jobs : List Job) → t < slots
+pub all_found : (tables : Tables) (slots t : ℕ) {jobs : List Job} → t < slots
     → jobs ≡ map (searched_at tables) (range_with_len 0 (32 * slots))
     → sum_by found_in (slice_range jobs (t * 32) ((t + 1) * 32)) ≡ sum_by (heard_count tables t) (range_with_len 0 32)
 unfolding heard_count
-all_found tables slots t jobs h j =
+all_found tables slots t {jobs} h j =
     ap (sum_by found_in) (jobs_there tables slots t jobs h j)
     ∙ sums_same found_in (searched_at tables) (heard_count tables t) (t * 32) 0 32 (λ i l.
     let slot : (t * 32 + i) / 32 ≡ t = omega (arith, l) in
@@ -144,12 +147,12 @@ all_found tables slots t jobs h j =
     ∙ ap (λ (k : ℕ). length (report_of tables (slot_grid tables t) (slot_watches t k))) handset)
 
 -- the totals of a slot by its counts and by what was found
-pub totals_there : (tables : Tables) (t heard : ℕ) (counts : Counts) → counts ≡ slot_counts t
+pub totals_there : (tables : Tables) (t : ℕ) {heard : ℕ} {counts : Counts} → counts ≡ slot_counts t
     → heard ≡ sum_by (heard_count tables t) (range_with_len 0 32)
     → record { frame = t / 10; slot = t % 10; placed = counts.placed; overlapped = counts.overlapped; heard = heard }
     ≡ slot_totals tables t
 unfolding slot_totals
-totals_there tables t heard counts c h =
+totals_there tables t {heard} {counts} c h =
     ap (λ (k : Counts). record { frame = t / 10; slot = t % 10; placed = k.placed; overlapped = k.overlapped; heard = heard }) c
     ∙ ap (λ (n : ℕ). record {
       frame = t / 10;
@@ -166,25 +169,26 @@ pub record AreSwept (tables : Tables) (n : ℕ) (grids : List GridValue) (counts
   pub counts_are : counts ≡ map slot_counts (range_with_len 0 n)
 
 -- one slot more
-pub swept_more : (tables : Tables) (n : ℕ) (grids grids_next : List GridValue) (counts counts_next : List Counts)
+pub swept_more : {tables : Tables} {n : ℕ} {grids grids_next : List GridValue} {counts counts_next : List Counts}
     → AreSwept tables n grids counts
     → grids_next ≡ grids ++ slot_grid tables n ∷ [] → counts_next ≡ counts ++ slot_counts n ∷ []
     → AreSwept tables (n + 1) grids_next counts_next
-swept_more tables n grids grids_next counts counts_next h g k = record {
-  grids_are = made_more (slot_grid tables) n grids grids_next (slot_grid tables n) h.grids_are g refl;
-  counts_are = made_more slot_counts n counts counts_next (slot_counts n) h.counts_are k refl;
+swept_more {tables} {n} {grids} {grids_next} {counts} {counts_next} h g k = record {
+  grids_are = made_more (slot_grid tables) n h.grids_are g refl;
+  counts_are = made_more slot_counts n h.counts_are k refl;
 }
 
 -- as many slots as were asked for
-pub swept_all : (tables : Tables) (t n : ℕ) (grids : List GridValue) (counts : List Counts) → t ≤ n → n ≤ t
+pub swept_all : {tables : Tables} {t n : ℕ} {grids : List GridValue} {counts : List Counts} → t ≤ n → n ≤ t
     → AreSwept tables t grids counts → AreSwept tables n grids counts
-swept_all tables t n grids counts h k swept =
+swept_all {tables} {t} {n} {grids} {counts} h k swept =
     let same : t ≡ n = omega (arith, h, k) in
     subst (λ (m : ℕ). AreSwept tables m grids counts) same swept
 
-pub length-swept : (tables : Tables) (n : ℕ) (grids : List GridValue) (counts : List Counts)
+-- so many were counted
+pub length-swept : {tables : Tables} {n : ℕ} {grids : List GridValue} {counts : List Counts}
     → AreSwept tables n grids counts → length counts ≡ n
-length-swept tables n grids counts swept =
+length-swept {tables} {n} {grids} {counts} swept =
     ap (λ (ks : List Counts). length ks) swept.counts_are ∙ length-map-range_with_len slot_counts 0 n
 
 -- a list that was written back into a place of its length

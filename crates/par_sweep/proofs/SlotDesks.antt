@@ -15,7 +15,7 @@ use Rattle.grant_file.specs.declared.grants.Grant.{Grant}
 use Rattle.cell_placer.specs.declared.member.Member.{Member}
 use Rattle.cell_placer.specs.Opened.{SlotOver, new_desk}
 use Rattle.cell_placer.specs.Placing.{DeskValue, desk_after, fates}
-use Rattle.cell_placer.proofs.Histories.{opened_blank}
+use Rattle.cell_placer.proofs.Histories.{opened_blank, same_desk}
 use Rattle.cell_placer.proofs.WrittenGrids.{all_written}
 use Rattle.par_sweep.specs.LoadCell.{load_cell}
 use Rattle.par_sweep.specs.LoadGrants.{load_grant, load_grants}
@@ -29,8 +29,8 @@ always (Ok x) P p = p
 always (Err e) P p = tt
 
 -- one grid more, under another name
-pub pushed : (old new : List GridValue) (grid other : GridValue) → new ≡ old ++ grid ∷ [] → grid ≡ other → new ≡ old ++ other ∷ []
-pushed old new grid other e h = e ∙ ap (λ (g : GridValue). old ++ g ∷ []) h
+pub pushed : (old : List GridValue) {new : List GridValue} {grid other : GridValue} → new ≡ old ++ grid ∷ [] → grid ≡ other → new ≡ old ++ other ∷ []
+pushed old {new} {grid} {other} e h = e ∙ ap (λ (g : GridValue). old ++ g ∷ []) h
 
 -- a slot has 64 grants
 pub count_of_grants : (t : ℕ) → length (load_grants t).grants ≡ 64
@@ -49,9 +49,6 @@ count_of_grants t =
 new_calls : (cell : RawCell) (frame slot room : ℕ) (members : Result (List Member) SlotOver) (desk : DeskValue)
     → new_desk cell frame slot room members ≡ Ok desk → desk.ledger.calls ≡ 0
 new_calls cell frame slot room (Ok members) desk e = sym (ap (λ (d : DeskValue). d.ledger.calls) (same_desk _ desk e))
-  where
-    same_desk : (a b : DeskValue) → ◌≡◌ {A = Result DeskValue SlotOver} (Ok a) (Ok b) → a ≡ b
-    same_desk a b k = cc
 new_calls cell frame slot room (Err over) desk e = absurd (let f : ⊥ = cc in f)
 
 -- its desk has judged none
@@ -79,19 +76,20 @@ blocks_of tables t h =
     (all_written tables (slot_desk t) (load_grants t).grants (subst IsGrid (sym (blank_of t)) (blank_legal t h))).blocks
     ∙ ap (λ (g : GridValue). g.blocks) (blank_of t)
 
--- the grid and the counts of a slot, where its grants were placed on its desk
-pub grid_of : (tables : Tables) (t : ℕ) (desk after : DeskValue) (grants : List Grant) (grid : GridValue)
+-- the grid of a slot, where its grants were placed on its desk
+pub grid_of : (tables : Tables) (t : ℕ) {desk after : DeskValue} {grants : List Grant} {grid : GridValue}
     → desk ≡ slot_desk t → grants ≡ (load_grants t).grants
     → after ≡ desk_after tables desk grants → grid ≡ after.grid → grid ≡ slot_grid tables t
 unfolding slot_grid
-grid_of tables t desk after grants grid d g a e =
+grid_of tables t {desk} {after} {grants} {grid} d g a e =
     e ∙ ap (λ (x : DeskValue). x.grid) a ∙ ap (λ (x : DeskValue). (desk_after tables x grants).grid) d
     ∙ ap (λ (gs : List Grant). (desk_after tables (slot_desk t) gs).grid) g
 
-pub counts_there : (t : ℕ) (desk : DeskValue) (grants : List Grant) (counts : Counts) → desk ≡ slot_desk t
+-- what was counted of them
+pub counts_there : (t : ℕ) {desk : DeskValue} {grants : List Grant} {counts : Counts} → desk ≡ slot_desk t
     → grants ≡ (load_grants t).grants
     → counts ≡ counts_of (fates desk.ledger grants) → counts ≡ slot_counts t
 unfolding slot_counts
-counts_there t desk grants counts d g e =
+counts_there t {desk} {grants} {counts} d g e =
     e ∙ ap (λ (x : DeskValue). counts_of (fates x.ledger grants)) d
     ∙ ap (λ (gs : List Grant). counts_of (fates (slot_desk t).ledger gs)) g

@@ -10,7 +10,7 @@ use Rattle.grant_file.specs.declared.grants.Grant.{Grant}
 use Rattle.grant_file.specs.declared.grants.GrantList.{GrantList}
 use Rattle.par_sweep.specs.LoadCell.{handset_name}
 
--- the values that the grants of slot t give to a handset
+-- the values that the grants of slot t give to a handset, in the order of the format's fields; their words need not ascend
 abbrev pub load_given : ℕ → ℕ → List Given
 load_given t h =
     record { name = Some Fdra; value = 1911 + 8 * h } ∷ record { name = Some Tdra; value = t % 16 }

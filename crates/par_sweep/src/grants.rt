@@ -73,7 +73,7 @@ fn grant(alloc: Global, t: u16, format: Format, handset: u16) -> Result<Grant, A
     })
 }
 
-/// The values that it gives.
+/// The values that it gives, in the order of the format's fields; no file was read, so their words need not ascend.
 fn given(alloc: Global, t: u64, handset: u64) -> Result<Items<Given>, AllocError>
     requires t { t < 200 }
     requires handset { handset < 32 }

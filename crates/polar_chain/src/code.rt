@@ -82,11 +82,11 @@ impl Code {
         ensures frozen { (result ≡ Err NoWord.Frozen) ↔
             (RepeatsBelow (word_len self.now) bits.now (length bits.now) × HasNoBlock self.now bits.now) }
     {
-        self.outcome(bits)
+        self.decode_core(bits)
     }
 
     /// What the received bits are, by the length of the word.
-    fn outcome(&self, bits: &Coded) -> Result<Block, NoWord>
+    fn decode_core(&self, bits: &Coded) -> Result<Block, NoWord>
         requires { length bits.now ≡ self.now.coded_len }
         ensures outcome { IsOutcome self.now bits.now result }
         ensures sound { IsCode self.now }

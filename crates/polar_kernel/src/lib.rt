@@ -16,11 +16,11 @@ pub fn transform<const N: usize>(word: &mut [bool; N])
     requires { IsTrue (is_code_length N) }
     ensures { word.new ≡ matrix_word word.old }
 {
-    run_stages(word);
+    transform_core(word);
 }
 
 /// The transform in stages: after each, runs of bits twice as long are words of their own.
-fn run_stages(word: &mut [bool])
+fn transform_core(word: &mut [bool])
     requires { IsTrue (is_code_length (length word.old)) }
     ensures { word.new ≡ matrix_word word.old }
 {

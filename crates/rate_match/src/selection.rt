@@ -28,11 +28,11 @@ pub fn select<const N: usize>(d: &[bool; N], k: usize, e: usize, out: &mut Coded
     requires size { N ≡ length_of k e }
     ensures { out.new ≡ selected N k e (bit_of d.now) }
 {
-    select_bits(d, k, e, out);
+    select_core(d, k, e, out);
 }
 
 /// The bits that are sent, of a word of any length.
-fn select_bits(word: &[bool], k: usize, e: usize, out: &mut Coded)
+fn select_core(word: &[bool], k: usize, e: usize, out: &mut Coded)
     requires longest { k ≤ 164 }
     requires most { e ≤ 1728 }
     requires size { IsTrue (is_code_length (length word.now)) }

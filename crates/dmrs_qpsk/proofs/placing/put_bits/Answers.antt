@@ -10,10 +10,10 @@ pub returns-clause-grid : goal.returns-clause-grid
 returns-clause-grid c =
     let a = c.args in
     let old = a.grid.now in
-    let new = c.put_regs.new.grid in
+    let new = c.put_bits_core.new.grid in
     let put = subst (λ (regs : List Reg). AreRegsPut a.first a.id regs a.bits.now (length regs) old new)
-    c.as_slice.ensures.value c.put_regs.ensures.places in
+    c.as_slice.ensures.value c.put_bits_core.ensures.places in
     let same = put.numbers in
     overwritten_is_this (image_of old.slot a.first a.id a.regs.now.items a.bits.now) old new same.mu same.frame same.slot
     same.blocks
-    (same.size ∙ c.put_regs.ensures.size) (λ s k l m. regs_done a.first a.id a.regs.now.items a.bits.now old new put s k)
+    (same.size ∙ c.put_bits_core.ensures.size) (λ s k l m. regs_done a.first a.id a.regs.now.items a.bits.now old new put s k)

@@ -5,6 +5,5 @@ use Rattle.par_sweep.proofs.grants.push_grants.Goals as goal
 pub loop-handset-preserved : goal.loop-handset-preserved
 loop-handset-preserved c =
     let l = c.loop-handset in
-    made_behind (load_grant c.args.t c.args.format) l.handset c.args.grants.now.items l.grants.items c.push.new.self.items
-    c.in_ok-grant.field-0 l.invariant
+    made_behind (load_grant c.args.t c.args.format) l.handset c.args.grants.now.items l.invariant
     c.in_ok-push.ensures.items c.in_ok-grant.ensures

@@ -8,5 +8,4 @@ loop-place-preserved g c =
     let job = c.index-jobs-place.result in
     let within : l.place < length c.args.jobs.now = search rules in
     let read : job ≡ get_or l.jobs l.place job = search rules in
-    searched_more c.args.tables.now c.args.grids.now c.args.jobs.now l.jobs l.place job c.search_one.new.job within
-    l.invariant read c.search_one.ensures
+    searched_more c.args.tables.now c.args.grids.now c.args.jobs.now l.place within l.invariant read c.search_one.ensures

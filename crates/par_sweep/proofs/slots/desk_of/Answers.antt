@@ -3,12 +3,10 @@ use Rattle.rrc_settings.specs.declared.settings.RawCell.{RawCell}
 use Rattle.cell_placer.specs.declared.refusal.DeskFault.{DeskFault}
 use Rattle.cell_placer.specs.Opened.{SlotOver, opened}
 use Rattle.cell_placer.specs.Placing.{DeskValue}
+use Rattle.cell_placer.proofs.Histories.{same_desk}
 use Rattle.par_sweep.specs.Slots.{slot_desk}
 use Rattle.par_sweep.proofs.Plans.{plans_every_slot}
 use Rattle.par_sweep.proofs.slots.desk_of.Goals as goal
-
-same_desk : (a b : DeskValue) → ◌≡◌ {A = Result DeskValue SlotOver} (Ok a) (Ok b) → a ≡ b
-same_desk a b e = cc
 
 not_over : (d : DeskValue) (over : SlotOver) → ◌≡◌ {A = Result DeskValue SlotOver} (Ok d) (Err over) → ⊥
 not_over d over e = cc

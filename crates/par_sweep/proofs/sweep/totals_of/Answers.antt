@@ -22,7 +22,7 @@ slice_bounds-heard_by-end c =
 
 pub heard_by-heard-requires-clause-found : goal.heard_by-heard-requires-clause-found
 heard_by-heard-requires-clause-found c =
-    all_few c.args.tables.now (length c.args.counts.now) c.loop-t.t c.args.jobs.now c.loop-t-test.true c.requires.jobs
+    all_few c.args.tables.now (length c.args.counts.now) c.loop-t.t c.loop-t-test.true c.requires.jobs
 
 pub loop-t-preserved : goal.loop-t-preserved
 loop-t-preserved c =
@@ -34,7 +34,5 @@ loop-t-preserved c =
     ap (λ (ks : List Counts). get_or ks t no_counts) c.requires.counts
     ∙ get_or-map-range_with_len slot_counts 0 n t t no_counts within (omega arith)
     in
-    let heard = c.heard_by-heard.ensures ∙ all_found tables n t c.args.jobs.now within c.requires.jobs in
-    made_more (slot_totals tables) t c.loop-t.totals.items c.push_value.new.values.items _ c.loop-t.invariant
-    c.in_ok-push_value.ensures
-    (totals_there tables t c.heard_by-heard.result (get_or c.args.counts.now t no_counts) counted heard)
+    let heard = c.heard_by-heard.ensures ∙ all_found tables n t within c.requires.jobs in
+    made_more (slot_totals tables) t c.loop-t.invariant c.in_ok-push_value.ensures (totals_there tables t counted heard)

@@ -4,6 +4,6 @@ use Rattle.bits_core.specs.CodeLengths.{is_code_length}
 use Rattle.rate_match.proofs.Lengths.{length_legal}
 use Rattle.rate_match.proofs.selection.select.Goals as goal
 
-pub select_bits-requires-clause-size : goal.select_bits-requires-clause-size
-select_bits-requires-clause-size g c =
+pub select_core-requires-clause-size : goal.select_core-requires-clause-size
+select_core-requires-clause-size g c =
     subst (λ (n : ℕ). IsTrue (is_code_length n)) (sym (c.told-d ∙ c.requires.size)) (length_legal c.args.k c.args.e)

@@ -4,7 +4,7 @@ use Rattle.cell_placer.specs.Ledger.{LedgerValue, IsLedger}
 use Rattle.cell_placer.specs.Owners.{AreOwners}
 use Rattle.cell_placer.specs.Ready.{IsSpot}
 use Rattle.cell_placer.specs.View.{ledger_of}
-use Rattle.cell_placer.proofs.Entries.{watch_is, owners_after, ledger_after, written_back}
+use Rattle.cell_placer.proofs.Entries.{IsFoundFor, IsOwnedBy, watch_found, owners_after, ledger_after, written_back}
 use Rattle.cell_placer.proofs.ledger.Ledger.accept.Goals as goal
 
 pub invariant_of-self : goal.invariant_of-self
@@ -13,15 +13,27 @@ invariant_of-self c =
     let a = c.args.entry in
     let kept = c.self.invariant in
     let spot : IsSpot l a = subst (λ (v : LedgerValue). IsSpot v a) (sym c.self.view_is) c.requires.spot in
-    let w = watch_is l.members a c.index.result.now c.watches.result.now c.index-watches-entry.result spot.handset
-    spot.watch c.index.ensures c.watches.ensures.value c.index-watches-entry.is in
+    let found : IsFoundFor l.members a c.index-watches-entry.result = record {
+      member = c.index.result.now;
+      watches = c.watches.result.now;
+      member_is = c.index.ensures;
+      watches_are = c.watches.ensures.value;
+      watch_is = c.index-watches-entry.is;
+    } in
     let P : List Accepted → Type 0 =
     λ x. IsLedger (record { blocks = l.blocks; members = l.members; room = l.room; calls = l.calls + 1; accepted = x }) in
     let Q : List Accepted → Type 0 = λ x. AreOwners l.blocks l.members x c.own.new.owners in
     let owners = c.self.inside.owners in
-    let after : AreOwners l.blocks l.members (l.accepted ++ a ∷ []) c.own.new.owners =
-    owners_after l a c.index-watches-entry.result c.as_slice.result.now owners.items c.deref_mut.result.now c.own.new.owners
-    spot kept.owners w c.as_slice.ensures.value c.deref_mut.ensures.value c.own.ensures in
+    let written : IsOwnedBy l a owners.items c.own.new.owners = record {
+      watch = c.index-watches-entry.result;
+      regs = c.as_slice.result.now;
+      before = c.deref_mut.result.now;
+      watch_is = watch_found spot found;
+      regs_are = c.as_slice.ensures.value;
+      before_is = c.deref_mut.ensures.value;
+      after_is = c.own.ensures;
+    } in
+    let after : AreOwners l.blocks l.members (l.accepted ++ a ∷ []) c.own.new.owners = owners_after spot kept.owners written in
     let size : length c.own.new.owners ≡ owners.len = after.size ∙ sym kept.owners.size ∙ sym owners.ok.0 in
     let R : List (Option ℕ) → Type 0 = λ x. AreOwners l.blocks l.members c.push.new.self.items x in
     record {

@@ -1,5 +1,5 @@
 use Rattle.polar_kernel.proofs.StagesOfLists.{none_done, partners_of, one_stage_more, all_done}
-use Rattle.polar_kernel.proofs.run_stages.Goals as goal
+use Rattle.polar_kernel.proofs.transform_core.Goals as goal
 
 pub loop-span-init : goal.loop-span-init
 loop-span-init c = none_done c.args.word.now c.requires

@@ -1,6 +1,6 @@
 use Rattle.std.proofs.Common.{◌-◌, length}
 use Rattle.polar_kernel.proofs.StagesOfLists.{IsPartly}
-use Rattle.polar_kernel.proofs.run_stages.Given as goal
+use Rattle.polar_kernel.proofs.transform_core.Given as goal
 
 abbrev pub invariant-loop-span : goal.invariant-loop-span
 invariant-loop-span l = IsPartly l.span l.initial.word l.word

@@ -1,6 +1,6 @@
 use Rattle.std.proofs.Common.{arith}
 use Rattle.dmrs_qpsk.proofs.RegPuts.{one_reg_more}
-use Rattle.dmrs_qpsk.proofs.placing.put_regs.Goals as goal
+use Rattle.dmrs_qpsk.proofs.placing.put_bits_core.Goals as goal
 
 pub loop-j-preserved : goal.loop-j-preserved
 loop-j-preserved c =

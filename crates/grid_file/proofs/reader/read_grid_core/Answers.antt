@@ -1,5 +1,5 @@
 use Rattle.grid_file.proofs.OneText.{points_leave, points_read}
-use Rattle.grid_file.proofs.reader.grid_in.Goals as goal
+use Rattle.grid_file.proofs.reader.read_grid_core.Goals as goal
 
 pub returns-in-Ok-read_points-clause-read : goal.returns-in-Ok-read_points-clause-read
 returns-in-Ok-read_points-clause-read c =

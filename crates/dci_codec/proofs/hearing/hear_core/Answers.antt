@@ -1,5 +1,5 @@
 use Rattle.dci_codec.proofs.Stages.{format_told}
-use Rattle.dci_codec.proofs.hearing.hear_fields.Goals as goal
+use Rattle.dci_codec.proofs.hearing.hear_core.Goals as goal
 
 pub returns-in-None-clause-answer : goal.returns-in-None-clause-answer
 returns-in-None-clause-answer c =

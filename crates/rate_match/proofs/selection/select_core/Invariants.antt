@@ -1,7 +1,7 @@
 use Rattle.std.proofs.Common.{◌≡◌, take, length}
 use Rattle.bits_core.specs.Bits.{bit_of}
 use Rattle.rate_match.specs.RateMatching.{selected}
-use Rattle.rate_match.proofs.selection.select_bits.Given as goal
+use Rattle.rate_match.proofs.selection.select_core.Given as goal
 
 -- the first bits
 abbrev pub invariant-loop-at : goal.invariant-loop-at

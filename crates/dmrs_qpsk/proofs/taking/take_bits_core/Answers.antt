@@ -2,7 +2,7 @@ use Rattle.std.proofs.Common.{◌+◌, ◌*◌, ◌/◌, ap, arith}
 use Rattle.coreset_map.specs.RegOrder.{reg_at}
 use Rattle.dmrs_qpsk.proofs.PointsRead.{all_taken, none_taken, one_taken_more, room_left}
 use Rattle.dmrs_qpsk.proofs.Takes.{first_bad}
-use Rattle.dmrs_qpsk.proofs.taking.take_regs.Goals as goal
+use Rattle.dmrs_qpsk.proofs.taking.take_bits_core.Goals as goal
 
 pub returns-in-Err-clause-bad : goal.returns-in-Err-clause-bad
 returns-in-Err-clause-bad c =

@@ -1,7 +1,7 @@
 use Rattle.std.proofs.Common.{◌≡◌, ◌++◌}
 use Rattle.std.specs.List.{range_with_len, flat_map}
 use Rattle.grid_file.specs.GridText.{grid_head, symbol_line}
-use Rattle.grid_file.proofs.writer.text_of.Given as goal
+use Rattle.grid_file.proofs.writer.write_grid_core.Given as goal
 
 -- the lines of the symbols so far follow the head
 abbrev pub invariant-loop-symbol : goal.invariant-loop-symbol

@@ -1,6 +1,6 @@
 use Rattle.std.proofs.Common.{◌≤◌, sym, subst}
 use Rattle.rrc_settings.specs.declared.settings.RawCell.{RawCell}
-use Rattle.cell_placer.proofs.desk.desk_of.Goals as goal
+use Rattle.cell_placer.proofs.desk.open_core.Goals as goal
 
 pub blank-requires-clause-mu : goal.blank-requires-clause-mu
 blank-requires-clause-mu c =

@@ -1,7 +1,7 @@
 use Rattle.std.proofs.Common.{length, rules}
 use Rattle.bits_core.specs.Bits.{bit_of}
 use Rattle.rate_match.proofs.Selected.{selected_all, selected_more}
-use Rattle.rate_match.proofs.selection.select_bits.Goals as goal
+use Rattle.rate_match.proofs.selection.select_core.Goals as goal
 
 pub loop-at-preserved : goal.loop-at-preserved
 loop-at-preserved c =

@@ -1,6 +1,6 @@
 use Rattle.list_facts.proofs.Ranges.{pushed_more}
 use Rattle.grid_file.specs.GridText.{grid_head, symbol_line}
-use Rattle.grid_file.proofs.writer.text_of.Goals as goal
+use Rattle.grid_file.proofs.writer.write_grid_core.Goals as goal
 
 pub loop-symbol-preserved : goal.loop-symbol-preserved
 loop-symbol-preserved c =
