@@ -45,6 +45,7 @@ pub record AsksBoth (words : List (String Global)) : Type 0 where
   pub watch_is : watch words ≡ Some (value words Watch)
   pub number : is_number (value words Watch) ≡ true
 
+-- legal words of `explain` do
 pub asks_both : (words : List (String Global)) → legal words ≡ Some Explain → AsksBoth words
 asks_both [] h = absurd (let f : ⊥ = cc in f)
 asks_both (w ∷ ws) h =

@@ -1,5 +1,5 @@
 -- What stands under no option: the number of slots of `sweep`, and the files behind it.
-use Rattle.std.proofs.Common.{◌≡◌, ℕ, ◌+◌, ◌<◌, ◌≤◌, Bool, true, false, ◌&&◌, eqb, leb, List, [], ◌∷◌, Some, None}
+use Rattle.std.proofs.Common.{◌≡◌, ℕ, ◌+◌, ◌<◌, ◌≤◌, true, ◌&&◌, eqb, leb, List, [], ◌∷◌, Some, None}
 use Rattle.std.proofs.Common.{String, length, take, get_or, slice_get, refl, sym, ap, ◌∙◌, arith}
 use Rattle.std.specs.List.{list_all}
 use Rattle.std.specs.String.{string_bytes}
@@ -23,6 +23,7 @@ by_the_first (other ∷ texts) text e =
     let same : other ≡ text = cc in
     and_true (is_slots other) ∙ ap is_slots same
 
+-- where there is none, nothing is asked
 pub by_no_first : (texts : List (List ℕ)) → slice_get texts 0 ≡ None → list_all is_slots (take 1 texts) ≡ true
 by_no_first [] e = refl
 by_no_first (other ∷ texts) e = absurd (let f : ⊥ = cc in f)
@@ -56,6 +57,7 @@ three_texts : (texts : List (List ℕ)) → length texts ≡ 3 → slice_get tex
 three_texts [] l = absurd (omega (arith, l))
 three_texts (text ∷ texts) l = refl
 
+-- so it is in legal words of `sweep`
 pub asks_slots : (words : List (String Global)) → legal words ≡ Some Sweep → AsksSlots words
 asks_slots [] h = absurd (let f : ⊥ = cc in f)
 asks_slots (w ∷ ws) h =
@@ -86,6 +88,7 @@ file_within : (command : Command) (words : List (String Global)) (place : ℕ) �
     → numbers_before command + place < length (texts_under None (arguments words))
 file_within command words place l = omega (arith, l, length-drop (numbers_before command) (texts_under None (arguments words)))
 
+-- what stands behind the numbers at its place is the file
 pub file_is : (command : Command) (words : List (String Global)) (place : ℕ) (text : List ℕ)
     → slice_get (texts_under None (arguments words)) (numbers_before command + place) ≡ Some text
     → text ≡ file command words place
@@ -94,6 +97,7 @@ file_is command words place text e =
     sym (get_or-drop (numbers_before command) texts place []
     ∙ get_or_from_slice_get texts (numbers_before command + place) text [] e)
 
+-- and something stands there, where the words name such a file
 pub file_there : (command : Command) (words : List (String Global)) (place : ℕ) → place < length (files command words)
     → slice_get (texts_under None (arguments words)) (numbers_before command + place)
     ≡ Some (get_or (texts_under None (arguments words)) (numbers_before command + place) [])

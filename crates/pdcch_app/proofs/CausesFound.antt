@@ -1,408 +1,210 @@
 -- Every outcome has the cause of its status.
-use Rattle.std.proofs.Common.{◌≡◌, inl, inr, ℕ, true, Option, Some, None, List, [], ◌∷◌, String, length, refl, sym, ap}
-use Rattle.std.proofs.Common.{subst, ◌∙◌, arith}
+use Rattle.std.proofs.Common.{◌≡◌, inl, inr, ℕ, suc, true, Option, Some, None, Result, List, [], ◌∷◌, String, length, Ok}
+use Rattle.std.proofs.Common.{Err, refl, sym, subst, ◌∙◌, arith}
 use Rattle.std.specs.declared.alloc.Global.{Global}
 use Rattle.rrc_settings.specs.declared.settings.RawCell.{RawCell}
 use Rattle.table_files.specs.declared.tables.Tables.{Tables}
 use Rattle.run_steps.specs.declared.statuses.Status.{Status}
-use Rattle.run_steps.specs.Outcome.{Outcome, Cause, BadSettings, BadTable, BadGrants, BadGrid, Fetched, Bytes, TooLong}
-use Rattle.run_steps.specs.Outcome.{Fault, ended, reading, status_of}
+use Rattle.run_steps.specs.Outcome.{Outcome, Cause, Refusal, Fetched, Bytes, TooLong, Fault, and_then, checked, ended}
+use Rattle.run_steps.specs.Outcome.{reading, status_of}
 use Rattle.pdcch_app.specs.declared.words.Command.{Command}
 use Rattle.pdcch_app.specs.declared.words.Command.TheVariants.{Write, Search, Explain, Sweep}
-use Rattle.pdcch_app.specs.Causes.{ReadSettings, ReadReliability, ReadTables, ReadGrants, ReadGrid, ReadFirstTable}
-use Rattle.pdcch_app.specs.Causes.{First, Second, Third, Fourth, SecondTable, BehindSettings, AtFirst}
-use Rattle.pdcch_app.specs.Causes.{TakesGrid, CauseOf, takes_grid, takes_settings}
-use Rattle.pdcch_app.specs.Checks.{settings_of, reliability_of, input_order_of, grants_of, grid_of}
+use Rattle.pdcch_app.specs.Causes.{ReadSettings, ReadReliability, ReadTables, ReadFirstTable, CameTo, First, Second, Third}
+use Rattle.pdcch_app.specs.Causes.{Fourth, SecondTable, NoReliability, NoInputOrder, NoFirstTable, NoSecondTable}
+use Rattle.pdcch_app.specs.Causes.{TakesGrid, HasGrants, HasGrid, WasFaulty, CauseOf, takes_grid, takes_settings}
 use Rattle.pdcch_app.specs.Outcomes.{both, outcome, served, sweep_of}
 use Rattle.pdcch_app.specs.Words.{legal, file, named, named_by, slots}
-use Rattle.pdcch_app.specs.Sweeping.{swept}
 use Rattle.pdcch_app.specs.Writing.{written}
 use Rattle.pdcch_app.proofs.AskedSlots.{files_are}
-use Rattle.pdcch_app.proofs.FilesRead.{file_ends, settings_good, settings_bad, reliability_good, reliability_bad}
-use Rattle.pdcch_app.proofs.FilesRead.{input_order_good, input_order_bad, grants_good, grants_bad, grid_good, grid_bad}
+use Rattle.pdcch_app.proofs.FilesRead.{IsCheck, settings_check, reliability_check, input_order_check, grants_check, grid_check}
+use Rattle.pdcch_app.proofs.InOrder.{after_tables, after_input_order, after_reliability, after_settings, in_order}
+use Rattle.pdcch_app.proofs.InOrder.{after_tables-grid, grid_settings}
 use Rattle.pdcch_app.proofs.JobsDone.{write_ends}
-use Rattle.pdcch_app.proofs.SweptTables.{swept_done}
+use Rattle.pdcch_app.proofs.SweptTables.{after_first, at_end, swept_done}
 use Rattle.pdcch_app.proofs.GridJobs.{grid_job, grid_job_ends}
 
--- what follows the first three files
-abbrev pub Later : Type 0
-Later = RawCell → Tables → List Fetched → Outcome
+-- an outcome has the cause of its status
+abbrev HasCause : List (String Global) → List Fetched → Outcome → Type 0
+HasCause words gave o = CauseOf o.status words gave
 
-abbrev pub after_input_order : Later → RawCell → List ℕ → List ℕ → List Fetched → Outcome
-after_input_order later cell numbers order = later cell (both numbers order)
+-- legal words of a command, over what each fetch gave
+module _ (words : List (String Global)) (gave : List Fetched) (command : Command) (legal_is : legal words ≡ Some command) where
+  -- a file that the run comes to, which may be at fault, and may be read as a value
+  module _ {A : Type 0} {check : List ℕ → Result A Refusal} {Is : List ℕ → A → Type 0} {AtFault : List ℕ → Type 0}
+      {cause : Cause} (told : IsCheck check Is AtFault cause) (Came : List Fetched → Type 0) (name : List ℕ)
+      (next : A → List Fetched → Outcome) where
+    -- by what the check found of its bytes
+    bytes_end : (bytes : List ℕ) (rest : List Fetched) (found : Result A Refusal) → check bytes ≡ found
+        → (WasFaulty AtFault Came rest → CauseOf (status_of cause) words gave)
+        → ((a : A) → Is bytes a → HasCause words gave (next a rest)) → Came (Bytes bytes ∷ rest)
+        → HasCause words gave (and_then (checked found) (λ a. next a rest))
+    bytes_end bytes rest (Ok a) e bad good came = good a (told.accepted bytes a e)
+    bytes_end bytes rest (Err refusal) e bad good came =
+        let faulty = told.refused bytes refusal e in
+        subst (λ (c : Cause). CauseOf (status_of c) words gave) (sym faulty.is)
+        (bad (record { bytes = bytes; before = came; found = faulty.found }))
 
-abbrev pub after_reliability : Later → List ℕ → RawCell → List ℕ → List Fetched → Outcome
-after_reliability later input_order cell numbers = reading input_order_of input_order (after_input_order later cell numbers)
+    -- by what its fetch gave
+    file_ends : (left : List Fetched) (n : ℕ) → length left ≡ suc n → Came left
+        → ((entry : Fetched) (rest : List Fetched) → Came (entry ∷ rest) → CameTo command gave entry)
+        → ((rest : List Fetched) → WasFaulty AtFault Came rest → CauseOf (status_of cause) words gave)
+        → ((bytes : List ℕ) (rest : List Fetched) (a : A) → Came (Bytes bytes ∷ rest) → length rest ≡ n → Is bytes a
+        → HasCause words gave (next a rest))
+        → HasCause words gave (reading check name next left)
+    unfolding reading
+    file_ends [] n l came meets bad good = absurd (omega (arith, l))
+    file_ends (Fault ∷ rest) n l came meets bad good =
+        record { command = command; legal_is = legal_is; file = meets Fault rest came }
+    file_ends (TooLong ∷ rest) n l came meets bad good =
+        record { command = command; legal_is = legal_is; file = meets TooLong rest came }
+    file_ends (Bytes bytes ∷ rest) n l came meets bad good =
+        bytes_end bytes rest (check bytes) refl (bad rest) (λ a is. good bytes rest a came (omega (arith, l)) is) came
 
-abbrev pub after_settings : Later → List ℕ → List ℕ → RawCell → List Fetched → Outcome
-after_settings later reliability input_order cell = reading reliability_of reliability (after_reliability later input_order cell)
-
--- the first three files, and what follows them
-abbrev pub three : Later → List ℕ → List ℕ → List ℕ → List Fetched → Outcome
-three later settings reliability input_order = reading settings_of settings (after_settings later reliability input_order)
-
--- the last file of a command that takes settings, and its job: grants for `write`, or else a grid
-abbrev pub last_of : Command → List (String Global) → Later
-last_of Write words cell tables = reading (grants_of cell) (file Write words 3) (λ list _. ended (written cell tables list))
-last_of command words cell tables =
-    reading (grid_of cell) (file command words 3) (λ points _. ended (grid_job command words cell tables points))
-
-pub served_is : (command : Command) (words : List (String Global)) (gave : List Fetched) → takes_settings command ≡ true
-    → served (Some command) words gave
-    ≡ three (last_of command words) (file command words 0) (file command words 1) (file command words 2) gave
-served_is Write words gave s = refl
-served_is Search words gave s = refl
-served_is Explain words gave s = refl
-served_is Sweep words gave s = absurd (let f : ⊥ = cc in f)
-
--- where it is a grid
-pub last_is_grid : (command : Command) (words : List (String Global)) (cell : RawCell) (tables : Tables)
-    (left : List Fetched) → takes_grid command ≡ true
-    → last_of command words cell tables left
-    ≡ reading (grid_of cell) (file command words 3) (λ points _. ended (grid_job command words cell tables points)) left
-last_is_grid Write words cell tables left g = absurd (let f : ⊥ = cc in f)
-last_is_grid Search words cell tables left g = refl
-last_is_grid Explain words cell tables left g = refl
-last_is_grid Sweep words cell tables left g = absurd (let f : ⊥ = cc in f)
-
--- a command that takes a grid takes settings
-pub grid_settings : (command : Command) → takes_grid command ≡ true → takes_settings command ≡ true
-grid_settings Write g = refl
-grid_settings Search g = refl
-grid_settings Explain g = refl
-grid_settings Sweep g = g
-
--- the cause of a refusal gives the cause of its status
-abbrev ByStatus : List (String Global) → List Fetched → Status → Type 0
-ByStatus words gave status = CauseOf status words gave
-
-by_cause : (words : List (String Global)) (gave : List Fetched) (cause told : Cause) → told ≡ cause
-    → CauseOf (status_of cause) words gave → CauseOf (status_of told) words gave
-by_cause words gave cause told e h = subst (λ (c : Cause). CauseOf (status_of c) words gave) (sym e) h
-
--- the third file
-third_ends : (words : List (String Global)) (command : Command) (gave : List Fetched) (later : Later) (name : List ℕ)
-    (cell : RawCell) (numbers : List ℕ) (left : List Fetched)
-    → legal words ≡ Some command → takes_settings command ≡ true → ReadReliability gave cell numbers left → length left ≡ 2
-    → ((tables : Tables) (rest : List Fetched) → ReadTables gave cell tables rest → length rest ≡ 1
-    → CauseOf (later cell tables rest).status words gave)
-    → CauseOf (after_reliability later name cell numbers left).status words gave
-third_ends words command gave later name cell numbers left h s read l went =
-    let Read : List Fetched → Type 0 = ReadReliability gave cell numbers in
-    file_ends (ByStatus words gave) input_order_of name (after_input_order later cell numbers) left 1 l
-    (λ rest e n. record { command = command; legal_is = h; file = Third cell numbers rest s (subst Read e read) })
-    (λ rest e n. record { command = command; legal_is = h; file = Third cell numbers rest s (subst Read e read) })
-    (λ bytes rest refusal e n c.
-    let bad = input_order_bad bytes refusal c in
-    by_cause words gave BadTable refusal.cause bad.is
-    (record {
-      command = command;
-      legal_is = h;
-      table =
-          BehindSettings s (inr (record {
-            cell = cell;
-            numbers = numbers;
-            bytes = bytes;
-            rest = rest;
-            before = subst Read e
-                read;
-            fault = bad.fault;
-            found = bad.found;
-          }));
-    }))
-    (λ bytes rest order e n c. went (both numbers order) rest
-    (record { bytes = bytes; before = subst Read e read; is = input_order_good bytes order c }) n)
-
--- the second file
-second_ends : (words : List (String Global)) (command : Command) (gave : List Fetched) (later : Later)
-    (reliability input_order : List ℕ) (cell : RawCell) (left : List Fetched)
-    → legal words ≡ Some command → takes_settings command ≡ true → ReadSettings gave cell left → length left ≡ 3
-    → ((tables : Tables) (rest : List Fetched) → ReadTables gave cell tables rest → length rest ≡ 1
-    → CauseOf (later cell tables rest).status words gave)
-    → CauseOf (after_settings later reliability input_order cell left).status words gave
-second_ends words command gave later reliability input_order cell left h s read l went =
-    let Read : List Fetched → Type 0 = ReadSettings gave cell in
-    file_ends (ByStatus words gave) reliability_of reliability (after_reliability later input_order cell) left 2 l
-    (λ rest e n. record { command = command; legal_is = h; file = Second cell rest s (subst Read e read) })
-    (λ rest e n. record { command = command; legal_is = h; file = Second cell rest s (subst Read e read) })
-    (λ bytes rest refusal e n c.
-    let bad = reliability_bad bytes refusal c in
-    by_cause words gave BadTable refusal.cause bad.is
-    (record {
-      command = command;
-      legal_is = h;
-      table =
-          BehindSettings s (inl (record {
-            cell = cell;
-            bytes = bytes;
-            rest = rest;
-            before = subst Read e read;
-            fault =
-                bad.fault;
-            found = bad.found;
-          }));
-    }))
-    (λ bytes rest numbers e n c.
-    third_ends words command gave later input_order cell numbers rest h s
-    (record { bytes = bytes; before = subst Read e read; is = reliability_good bytes numbers c }) n went)
-
--- the first file
-three_end : (words : List (String Global)) (command : Command) (gave : List Fetched) (later : Later)
-    (settings reliability input_order : List ℕ)
-    → legal words ≡ Some command → takes_settings command ≡ true → length gave ≡ 4
-    → ((cell : RawCell) (tables : Tables) (rest : List Fetched) → ReadTables gave cell tables rest → length rest ≡ 1
-    → CauseOf (later cell tables rest).status words gave)
-    → CauseOf (three later settings reliability input_order gave).status words gave
-three_end words command gave later settings reliability input_order h s l went =
-    file_ends (ByStatus words gave) settings_of settings (after_settings later reliability input_order) gave 3 l
-    (λ rest e n. record { command = command; legal_is = h; file = First rest e })
-    (λ rest e n. record { command = command; legal_is = h; file = First rest e })
-    (λ bytes rest refusal e n c.
-    let bad = settings_bad bytes refusal c in
-    by_cause words gave BadSettings refusal.cause bad.is
-    (record {
-      command = command;
-      legal_is = h;
-      settings = s;
-      bytes = bytes;
-      rest = rest;
-      first = e;
-      fault = bad.fault;
-      found = bad.found;
-    }))
-    (λ bytes rest cell e n c.
-    let good = settings_good bytes cell c in
-    second_ends words command gave later reliability input_order cell rest h s
-    (record { bytes = bytes; first = e; sound = good.sound; is = good.is }) n (went cell))
-
-none_left : (rest : List Fetched) → length rest ≡ 0 → rest ≡ []
-none_left [] l = refl
-none_left (entry ∷ rest) l = absurd (omega (arith, l))
-
--- the last file is the only one that is left
-at_last : (gave : List Fetched) (cell : RawCell) (tables : Tables) (left : List Fetched) (entry : Fetched) (rest : List Fetched)
-    → ReadTables gave cell tables left → left ≡ entry ∷ rest → length rest ≡ 0 → ReadTables gave cell tables (entry ∷ [])
-at_last gave cell tables left entry rest read e l =
-    subst (ReadTables gave cell tables) (e ∙ ap (λ (r : List Fetched). entry ∷ r) (none_left rest l)) read
+    -- by that of the last fetch
+    last_ends : (left : List Fetched) → length left ≡ 1 → Came left
+        → ((entry : Fetched) → Came (entry ∷ []) → CameTo command gave entry)
+        → (WasFaulty AtFault Came [] → CauseOf (status_of cause) words gave)
+        → ((bytes : List ℕ) (a : A) → Came (Bytes bytes ∷ []) → Is bytes a → HasCause words gave (next a []))
+        → HasCause words gave (reading check name next left)
+    unfolding reading
+    last_ends [] l came meets bad good = absurd (omega (arith, l))
+    last_ends (entry ∷ other ∷ rest) l came meets bad good = absurd (omega (arith, l))
+    last_ends (Fault ∷ []) l came meets bad good =
+        record { command = command; legal_is = legal_is; file = meets Fault came }
+    last_ends (TooLong ∷ []) l came meets bad good =
+        record { command = command; legal_is = legal_is; file = meets TooLong came }
+    last_ends (Bytes bytes ∷ []) l came meets bad good =
+        bytes_end bytes [] (check bytes) refl bad (λ a is. good bytes a came is) came
 
 -- the grants, and what is written of them
 grants_end : (words : List (String Global)) (gave : List Fetched) (cell : RawCell) (tables : Tables) (left : List Fetched)
     → legal words ≡ Some Write → ReadTables gave cell tables left → length left ≡ 1
-    → CauseOf (last_of Write words cell tables left).status words gave
+    → HasCause words gave (after_tables Write words cell tables left)
 grants_end words gave cell tables left h read l =
-    file_ends (ByStatus words gave) (grants_of cell) (file Write words 3) (λ list _. ended (written cell tables list)) left 0 l
-    (λ rest e n. record {
-      command = Write;
-      legal_is = h;
-      file = Fourth cell tables refl
-          (at_last gave cell tables left Fault rest read e n);
-    })
-    (λ rest e n. record {
-      command = Write;
-      legal_is = h;
-      file = Fourth cell tables refl
-          (at_last gave cell tables left TooLong rest read e n);
-    })
-    (λ bytes rest refusal e n c.
-    let bad = grants_bad cell bytes refusal c in
-    by_cause words gave BadGrants refusal.cause bad.is
-    (record {
-      legal_is = h;
-      cell = cell;
-      tables = tables;
-      bytes = bytes;
-      before = at_last gave cell tables left
-          (Bytes bytes) rest read e n;
-      fault = bad.fault;
-      found = bad.found;
-    }))
-    (λ bytes rest list e n c.
-    let good = grants_good cell bytes list c in
-    let all : ReadGrants gave cell tables list =
-    record {
-      bytes = bytes;
-      before = at_last gave cell tables left (Bytes bytes) rest read e n;
-      sound = good.sound;
-      is =
-          good.is;
-    } in
-    write_ends (ByStatus words gave) cell tables list
-    (λ over. inl (record { legal_is = h; cell = cell; tables = tables; list = list; read = all; over = over }))
-    (λ desk d some. record {
-      list = list;
-      desk = desk;
-      ready =
-          record { legal_is = h; cell = cell; tables = tables; read = all; desk_is = d };
-      some = some;
-    })
-    (λ desk d none. inl (record {
-      list = list;
-      desk = desk;
-      ready =
-          record { legal_is = h; cell = cell; tables = tables; read = all; desk_is = d };
-      none = none;
-    })))
+    last_ends words gave Write h (grants_check cell) (ReadTables gave cell tables) (file Write words 3)
+    (λ list _. ended (written cell tables list)) left l read
+    (λ entry came. Fourth cell tables refl came)
+    (λ bad. record { legal_is = h; cell = cell; tables = tables; file = bad })
+    (λ bytes list came is.
+    let grants : HasGrants gave =
+    record { cell = cell; tables = tables; list = list; read = record { bytes = bytes; before = came; is = is } } in
+    write_ends (λ (status : Status). CauseOf status words gave) cell tables list
+    (λ over. inl (record { legal_is = h; grants = grants; over = over }))
+    (λ desk d some. record { ready = record { legal_is = h; grants = grants; desk = desk; desk_is = d }; some = some })
+    (λ desk d none. inl (record { ready = record { legal_is = h; grants = grants; desk = desk; desk_is = d }; none = none })))
 
 -- the grid, and what is told of it
 grid_ends : (words : List (String Global)) (gave : List Fetched) (command : Command) (cell : RawCell) (tables : Tables)
     (left : List Fetched)
     → legal words ≡ Some command → takes_grid command ≡ true → ReadTables gave cell tables left → length left ≡ 1
-    → CauseOf (last_of command words cell tables left).status words gave
+    → HasCause words gave (after_tables command words cell tables left)
 grid_ends words gave command cell tables left h g read l =
     let takes : TakesGrid words = record { command = command; legal_is = h; grid = g } in
-    subst (λ (o : Outcome). CauseOf o.status words gave) (sym (last_is_grid command words cell tables left g))
-    (file_ends (ByStatus words gave) (grid_of cell) (file command words 3)
-    (λ points _. ended (grid_job command words cell tables points)) left 0 l
-    (λ rest e n. record {
-      command = command;
-      legal_is = h;
-      file = Fourth cell tables (grid_settings command g)
-          (at_last gave cell tables left Fault rest read e n);
-    })
-    (λ rest e n. record {
-      command = command;
-      legal_is = h;
-      file = Fourth cell tables (grid_settings command g)
-          (at_last gave cell tables left TooLong rest read e n);
-    })
-    (λ bytes rest refusal e n c.
-    let bad = grid_bad cell bytes refusal c in
-    by_cause words gave BadGrid refusal.cause bad.is
-    (record {
-      takes = takes;
-      cell = cell;
-      tables = tables;
-      bytes = bytes;
-      before = at_last gave cell tables left
-          (Bytes bytes) rest read e n;
-      found = bad.found;
-    }))
-    (λ bytes rest points e n c.
-    let good = grid_good cell bytes points c in
-    let all : ReadGrid gave cell tables points =
-    record {
-      bytes = bytes;
-      before = at_last gave cell tables left (Bytes bytes) rest read e n;
-      is = good.is;
-      mu =
-          good.mu;
-      blocks = good.blocks;
-    } in
-    grid_job_ends (ByStatus words gave) words command cell tables points h g
-    (λ name f unknown. inl (record {
-      takes = takes;
-      cell = cell;
-      tables = tables;
-      points = points;
-      read = all;
-      name = name;
-      named = f;
-      unknown = unknown;
-    }))
-    (λ over. inr (record { takes = takes; cell = cell; tables = tables; points = points; read = all; over = over }))
+    subst (HasCause words gave) (sym (after_tables-grid command words cell tables left g))
+    (last_ends words gave command h (grid_check cell) (ReadTables gave cell tables) (file command words 3)
+    (λ points _. ended (grid_job command words cell tables points)) left l read
+    (λ entry came. Fourth cell tables (grid_settings command g) came)
+    (λ bad. record { takes = takes; cell = cell; tables = tables; file = bad })
+    (λ bytes points came is.
+    let grid : HasGrid gave =
+    record { cell = cell; tables = tables; points = points; read = record { bytes = bytes; before = came; is = is } } in
+    grid_job_ends (λ (status : Status). CauseOf status words gave) words command cell tables points h g
+    (λ name f unknown. inl (record { takes = takes; grid = grid; name = name; named = f; unknown = unknown }))
+    (λ over. inr (record { takes = takes; grid = grid; over = over }))
     (λ watches word own asks beyond.
     inr (record {
-      legal_is = own;
-      cell = cell;
-      tables = tables;
-      points = points;
-      read = all;
-      watches = watches;
-      word = word;
-      asks = asks;
+      asked = record { legal_is = own; grid = grid; watches = watches; word = word; asks = asks };
       beyond = beyond;
     }))
-    (λ own known none. inr (inl
-    (record { legal_is = own; cell = cell; tables = tables; points = points; read = all; known = known; within = none })))
+    (λ own known none. inr (inl (record { legal_is = own; grid = grid; known = known; within = none })))
     (λ watches word own asks below.
     inr (inr (inl (record {
-      legal_is = own;
-      cell = cell;
-      tables = tables;
-      points = points;
-      read = all;
-      watches = watches;
-      word = word;
-      asks = asks;
+      asked = record { legal_is = own; grid = grid; watches = watches; word = word; asks = asks };
       below = below;
     }))))))
 
+-- the last file, whatever it is
+fourth_ends : (words : List (String Global)) (gave : List Fetched) (command : Command) (cell : RawCell) (tables : Tables)
+    (left : List Fetched) → legal words ≡ Some command → takes_settings command ≡ true → ReadTables gave cell tables left
+    → length left ≡ 1
+    → HasCause words gave (after_tables command words cell tables left)
+fourth_ends words gave Write cell tables left h s read l = grants_end words gave cell tables left h read l
+fourth_ends words gave Search cell tables left h s read l = grid_ends words gave Search cell tables left h refl read l
+fourth_ends words gave Explain cell tables left h s read l = grid_ends words gave Explain cell tables left h refl read l
+fourth_ends words gave Sweep cell tables left h s read l = absurd (let f : ⊥ = cc in f)
+
+-- the files of a command that takes settings
+module _ (words : List (String Global)) (gave : List Fetched) (command : Command) (legal_is : legal words ≡ Some command)
+    (takes : takes_settings command ≡ true) where
+  -- the third, and then the last
+  third_ends : (cell : RawCell) (numbers : List ℕ) (left : List Fetched) → ReadReliability gave cell numbers left
+      → length left ≡ 2 → HasCause words gave (after_reliability command words cell numbers left)
+  third_ends cell numbers left read l =
+      file_ends words gave command legal_is input_order_check (ReadReliability gave cell numbers) (file command words 2)
+      (after_input_order command words cell numbers) left 1 l read
+      (λ entry rest came. Third cell numbers rest takes came)
+      (λ rest bad. record { command = command; legal_is = legal_is; table = NoInputOrder cell numbers rest takes bad })
+      (λ bytes rest order came n is.
+      fourth_ends words gave command cell (both numbers order) rest legal_is takes
+      (record { bytes = bytes; before = came; is = is }) n)
+
+  -- the second, and then the third
+  second_ends : (cell : RawCell) (left : List Fetched) → ReadSettings gave cell left → length left ≡ 3
+      → HasCause words gave (after_settings command words cell left)
+  second_ends cell left read l =
+      file_ends words gave command legal_is reliability_check (ReadSettings gave cell) (file command words 1)
+      (after_reliability command words cell) left 2 l read
+      (λ entry rest came. Second cell rest takes came)
+      (λ rest bad. record { command = command; legal_is = legal_is; table = NoReliability cell rest takes bad })
+      (λ bytes rest numbers came n is. third_ends cell numbers rest (record { bytes = bytes; before = came; is = is }) n)
+
+  -- the first, and then the second
+  first_ends : length gave ≡ 4 → HasCause words gave (in_order command words gave)
+  first_ends l =
+      file_ends words gave command legal_is settings_check (◌≡◌ gave) (file command words 0) (after_settings command words)
+      gave 3 l refl
+      (λ entry rest came. First rest came)
+      (λ rest bad. record { command = command; legal_is = legal_is; settings = takes; rest = rest; file = bad })
+      (λ bytes rest cell came n is. second_ends cell rest (record { bytes = bytes; before = came; is = is }) n)
+
 -- the two tables of `sweep`: the input order
 second_table_ends : (words : List (String Global)) (gave : List Fetched) (numbers : List ℕ) (left : List Fetched)
-    → legal words ≡ Some Sweep
-    → ReadFirstTable gave numbers left → length left ≡ 1
-    → CauseOf (reading input_order_of (file Sweep words 1) (λ i _. ended (swept (both numbers i) (slots words)))
-    left).status words gave
+    → legal words ≡ Some Sweep → ReadFirstTable gave numbers left → length left ≡ 1
+    → HasCause words gave (after_first words numbers left)
 second_table_ends words gave numbers left h read l =
-    let at_last : (entry : Fetched) (rest : List Fetched) → left ≡ entry ∷ rest → length rest ≡ 0
-    → ReadFirstTable gave numbers (entry ∷ [])
-    = λ entry rest e n. subst (ReadFirstTable gave numbers) (e ∙ ap (λ (r : List Fetched). entry ∷ r) (none_left rest n)) read in
-    file_ends (ByStatus words gave) input_order_of (file Sweep words 1)
-    (λ i _. ended (swept (both numbers i) (slots words))) left 0 l
-    (λ rest e n. record { command = Sweep; legal_is = h; file = SecondTable numbers refl (at_last Fault rest e n) })
-    (λ rest e n. record { command = Sweep; legal_is = h; file = SecondTable numbers refl (at_last TooLong rest e n) })
-    (λ bytes rest refusal e n c.
-    let bad = input_order_bad bytes refusal c in
-    by_cause words gave BadTable refusal.cause bad.is
-    (record {
-      command = Sweep;
-      legal_is = h;
-      table =
-          AtFirst refl (inr (record {
-            numbers = numbers;
-            bytes = bytes;
-            before = at_last (Bytes bytes) rest e n;
-            fault =
-                bad.fault;
-            found = bad.found;
-          }));
-    }))
-    (λ bytes rest order e n c.
-    subst (ByStatus words gave) (sym (swept_done (both numbers order) (slots words)))
+    last_ends words gave Sweep h input_order_check (ReadFirstTable gave numbers) (file Sweep words 1) (at_end words numbers)
+    left l read
+    (λ entry came. SecondTable numbers refl came)
+    (λ bad. record { command = Sweep; legal_is = h; table = NoSecondTable numbers refl bad })
+    (λ bytes order came is.
+    subst (λ (status : Status). CauseOf status words gave) (sym (swept_done (both numbers order) (slots words)))
     (inr (inr (inr (record {
       legal_is = h;
       tables = both numbers order;
-      read = record { bytes = bytes; before = at_last (Bytes bytes) rest e n; is = input_order_good bytes order c };
+      read = record { bytes = bytes; before = came; is = is };
     })))))
 
 -- the reliability table
 sweep_ends : (words : List (String Global)) (gave : List Fetched) → legal words ≡ Some Sweep → length gave ≡ 2
-    → CauseOf (sweep_of (slots words) (file Sweep words 0) (file Sweep words 1) gave).status words gave
+    → HasCause words gave (sweep_of (slots words) (file Sweep words 0) (file Sweep words 1) gave)
 sweep_ends words gave h l =
-    file_ends (ByStatus words gave) reliability_of (file Sweep words 0)
-    (λ r. reading input_order_of (file Sweep words 1) (λ i _. ended (swept (both r i) (slots words)))) gave 1 l
-    (λ rest e n. record { command = Sweep; legal_is = h; file = First rest e })
-    (λ rest e n. record { command = Sweep; legal_is = h; file = First rest e })
-    (λ bytes rest refusal e n c.
-    let bad = reliability_bad bytes refusal c in
-    by_cause words gave BadTable refusal.cause bad.is
-    (record {
-      command = Sweep;
-      legal_is = h;
-      table = AtFirst refl (inl (record { bytes = bytes; rest = rest; first = e; fault = bad.fault; found = bad.found }));
-    }))
-    (λ bytes rest numbers e n c. second_table_ends words gave numbers rest h
-    (record { bytes = bytes; first = e; is = reliability_good bytes numbers c }) n)
+    file_ends words gave Sweep h reliability_check (◌≡◌ gave) (file Sweep words 0) (after_first words) gave 1 l refl
+    (λ entry rest came. First rest came)
+    (λ rest bad. record { command = Sweep; legal_is = h; table = NoFirstTable rest refl bad })
+    (λ bytes rest numbers came n is.
+    second_table_ends words gave numbers rest h (record { bytes = bytes; before = came; is = is }) n)
 
--- every outcome has its cause
+-- every outcome has its cause, by the command of the words
 cause_by : (words : List (String Global)) (gave : List Fetched) (command : Option Command) → legal words ≡ command
     → length gave ≡ length (named_by command words)
-    → CauseOf (served command words gave).status words gave
+    → HasCause words gave (served command words gave)
 cause_by words gave None h l = h
-cause_by words gave (Some Write) h l =
-    three_end words Write gave (last_of Write words) (file Write words 0) (file Write words 1) (file Write words 2) h refl
-    (l ∙ files_are words Write h)
-    (λ cell tables rest read n. grants_end words gave cell tables rest h read n)
-cause_by words gave (Some Search) h l =
-    three_end words Search gave (last_of Search words) (file Search words 0) (file Search words 1) (file Search words 2) h
-    refl (l ∙ files_are words Search h)
-    (λ cell tables rest read n. grid_ends words gave Search cell tables rest h refl read n)
-cause_by words gave (Some Explain) h l =
-    three_end words Explain gave (last_of Explain words) (file Explain words 0) (file Explain words 1)
-    (file Explain words 2) h refl (l ∙ files_are words Explain h)
-    (λ cell tables rest read n. grid_ends words gave Explain cell tables rest h refl read n)
+cause_by words gave (Some Write) h l = first_ends words gave Write h refl (l ∙ files_are words Write h)
+cause_by words gave (Some Search) h l = first_ends words gave Search h refl (l ∙ files_are words Search h)
+cause_by words gave (Some Explain) h l = first_ends words gave Explain h refl (l ∙ files_are words Explain h)
 cause_by words gave (Some Sweep) h l = sweep_ends words gave h (l ∙ files_are words Sweep h)
 
+-- every outcome has its cause
 pub cause_of_outcome : (words : List (String Global)) (gave : List Fetched) → length gave ≡ length (named words)
     → CauseOf (outcome words gave).status words gave
 cause_of_outcome words gave l = cause_by words gave (legal words) refl l

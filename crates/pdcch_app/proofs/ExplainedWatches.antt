@@ -1,5 +1,5 @@
 -- Every watch of a handset is explained, with the answer that the stages of hearing tell.
-use Rattle.std.proofs.Common.{◌≡◌, ℕ, ◌<◌, List, [], ◌∷◌, Option, Some, Ok, length, refl, sym, ap, ◌∙◌}
+use Rattle.std.proofs.Common.{◌≡◌, ℕ, ◌<◌, List, Option, Some, Ok, length, refl, sym, ap, ◌∙◌}
 use Rattle.rrc_settings.specs.declared.settings.RawCell.{RawCell}
 use Rattle.settings_json.specs.First.{raw_in}
 use Rattle.settings_json.proofs.NoFault.{legal_read}
@@ -12,20 +12,18 @@ use Rattle.monitor_plan.specs.Watch.{no_watch, watch_at}
 use Rattle.monitor_plan.proofs.PlannedWatches.{planned-made}
 use Rattle.dci_codec.specs.Answer.{answer_at}
 use Rattle.dci_codec.proofs.OneAnswer.{tells_the_answer}
-use Rattle.run_steps.specs.Outcome.{Fetched, given_of, ended}
+use Rattle.run_steps.specs.Outcome.{ended}
 use Rattle.pdcch_app.specs.declared.arguments.Flag.TheVariants as flags
 use Rattle.pdcch_app.specs.declared.words.Command.TheVariants.{Explain}
 use Rattle.pdcch_app.specs.Arguments.{number_of}
-use Rattle.pdcch_app.specs.Checks.{settings_of, reliability_of, input_order_of, grid_of}
 use Rattle.pdcch_app.specs.Explaining.{explained, explained_by, printed, watch_text}
-use Rattle.pdcch_app.specs.Outcomes.{served}
 use Rattle.pdcch_app.specs.Promises.{ExplainsEveryWatch}
 use Rattle.pdcch_app.specs.Reporting.{handset_named}
-use Rattle.pdcch_app.specs.Words.{file, handset, value, watch}
+use Rattle.pdcch_app.specs.Words.{handset, value, watch}
 use Rattle.pdcch_app.proofs.Asked.{asks_both}
 use Rattle.pdcch_app.proofs.Exceeding.{place_within}
 use Rattle.pdcch_app.proofs.Explainings.{among_is, explained_is}
-use Rattle.pdcch_app.proofs.RunPromises.{went, settings-read, reliability_read, input_order-read, grid-read}
+use Rattle.pdcch_app.proofs.InOrder.{grid_given}
 
 -- what is explained of a watch of the handset with a name
 explained-watch : (cell : RawCell) (tables : Tables) (grid : GridValue) (name word : List ℕ) (place : ℕ) (watches : List Watch)
@@ -40,10 +38,10 @@ explained-watch cell tables grid name word place watches n p l =
 same_value : (given found : List ℕ) (value : Option (List ℕ)) → value ≡ Some given → value ≡ Some found → found ≡ given
 same_value given found value e f = let both_are = sym f ∙ e in cc
 
+-- `explain` prints every watch of a handset of the cell
 pub explains_every_watch : ExplainsEveryWatch
 explains_every_watch words settings reliability input_order grid tables points name word place watches w hs hr hi hg s r i g
     mu blocks named asked n p l =
-    let gave : List Fetched = given_of settings ∷ given_of reliability ∷ given_of input_order ∷ given_of grid ∷ [] in
     let cell = raw_in settings in
     let number = number_of word in
     let asks = asks_both words w in
@@ -55,13 +53,8 @@ explains_every_watch words settings reliability input_order grid tables points n
     let looked_at = watch_at watches number in
     record {
       is =
-          ap (λ c. served c words gave) w
-          ∙ went settings_of (file Explain words 0) _ settings _ cell hs (settings-read settings s)
-          ∙ went reliability_of (file Explain words 1) _ reliability _ tables.reliability hr
-          (reliability_read reliability tables.reliability r)
-          ∙ went input_order_of (file Explain words 2) _ input_order _ tables.input_order hi
-          (input_order-read input_order tables.input_order i)
-          ∙ went (grid_of cell) (file Explain words 3) _ grid _ points hg (grid-read cell grid points g mu blocks)
+          grid_given words settings reliability input_order grid Explain cell tables points w refl hs hr hi hg
+          (record { sound = s; is = refl }) r i (record { is = g; mu = mu; blocks = blocks })
           ∙ ap (λ (text : List ℕ). ended (explained cell tables points text (value words flags.Watch))) its_name
           ∙ ap (λ (text : List ℕ). ended (explained cell tables points name text)) its_word
           ∙ ap ended (explained-watch cell tables points name word place watches n p l);

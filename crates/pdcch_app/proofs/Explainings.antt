@@ -1,7 +1,6 @@
 -- What is printed of one watch, step by step: the handset, its plan, the watch.
-use Rattle.std.proofs.Common.{◌≡◌, ℕ, ◌<◌, ◌≤◌, true, false, ltb, Option, Some, List, Result, Ok, Err, length, refl, ap}
-use Rattle.std.proofs.Common.{sym, subst, ◌∙◌, arith}
-use Rattle.std.proofs.lemmas.Bool.Decides.{nat_tests}
+use Rattle.std.proofs.Common.{◌≡◌, ℕ, ◌<◌, ◌≤◌, Option, Some, List, Result, Ok, Err, length, refl, ap}
+use Rattle.std.proofs.Common.{sym, subst, ◌∙◌}
 use Rattle.rrc_settings.specs.declared.settings.RawCell.{RawCell}
 use Rattle.monitor_plan.specs.declared.watch.Watch.{Watch}
 use Rattle.monitor_plan.specs.Planned.{planned}

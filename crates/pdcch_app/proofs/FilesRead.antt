@@ -1,73 +1,55 @@
--- The files of a run, one after the other: the cause of each way in which one of them ends it.
-use Rattle.std.proofs.Common.{◌≡◌, ℕ, suc, Bool, true, false, cond, ◌==◌, List, [], ◌∷◌, Option, Some, None, Result, Ok}
-use Rattle.std.proofs.Common.{Err, length, refl, sym, ap, subst, ◌∙◌, arith}
+-- The files of a run, one after the other: what the check of each tells of its bytes, and where the run goes from there.
+use Rattle.std.proofs.Common.{◌≡◌, ℕ, Bool, true, false, cond, ◌==◌, List, ◌∷◌, Option, Some, None, Result, Ok}
+use Rattle.std.proofs.Common.{Err, refl, sym, ap, subst, ◌∙◌, arith}
 use Rattle.std.proofs.lemmas.Bool.Decides.{nat_tests}
-use Rattle.rrc_settings.specs.Faults.{Finding}
-use Rattle.rrc_settings.specs.declared.place.SettingsFault.{SettingsFault}
 use Rattle.rrc_settings.specs.declared.settings.RawCell.{RawCell}
 use Rattle.settings_json.specs.First.{first_fault_in, raw_in}
 use Rattle.table_files.specs.TableText.{read_table}
 use Rattle.table_files.specs.declared.fault.TableFault.{TableFault}
-use Rattle.grant_file.specs.Faults as grants
 use Rattle.grant_file.specs.First.{first_fault_in as first_grants_fault, grants_in}
-use Rattle.grant_file.specs.declared.grants.GrantList.{GrantList}
-use Rattle.grant_file.specs.declared.place.GrantFault.{GrantFault}
 use Rattle.grid_file.specs.FoundGrid.{reading_of}
 use Rattle.slot_grid.specs.Grid.{GridValue}
 use Rattle.run_steps.specs.declared.statuses.Status.{Status}
 use Rattle.run_steps.specs.declared.statuses.Status.TheVariants as ends
 use Rattle.run_steps.specs.Outcome.{Outcome, Refusal, Cause, BadSettings, BadTable, BadGrants, BadGrid, Fetched, Bytes}
-use Rattle.run_steps.specs.Outcome.{TooLong, Fault, and_then, checked, reading, status_of}
-use Rattle.pdcch_app.specs.Causes.{IsNoGridOf, NoText, OtherMu, OtherBlocks}
-use Rattle.pdcch_app.specs.Checks.{settings_found, settings_of, table_found, reliability_of, input_order_of}
-use Rattle.pdcch_app.specs.Checks.{grants_found, grants_of, grid_read, grid_of}
+use Rattle.run_steps.specs.Outcome.{TooLong, Fault, reading, status_of}
+use Rattle.pdcch_app.specs.Causes.{HasFault, IsSound, AreSettings, AreNoSettings, IsTable, IsNoTable, AreGrants, AreNoGrants}
+use Rattle.pdcch_app.specs.Causes.{IsGridOf, IsNoGridOf, NoText, OtherMu, OtherBlocks}
+use Rattle.pdcch_app.specs.Checks.{settings_of, table_found, reliability_of, input_order_of}
+use Rattle.pdcch_app.specs.Checks.{grants_of, grid_read, grid_of}
 use Rattle.pdcch_app.specs.Lines.{settings_line, reliability_line, input_order_line, grants_line}
 
--- what a check found, by cases
-checked_ends : {A : Type 0} (C : Status → Type 0) (found : Result A Refusal) (next : A → Outcome)
-    → ((refusal : Refusal) → found ≡ Err refusal → C (status_of refusal.cause))
-    → ((a : A) → found ≡ Ok a → C (next a).status) → C (and_then (checked found) next).status
-checked_ends C (Ok a) next bad good = good a refl
-checked_ends C (Err refusal) next bad good = bad refusal refl
+-- a finding, and a refusal for this cause
+pub record IsRefusal (Found : Type 0) (cause : Cause) (refusal : Refusal) : Type 0 where
+  pub found : Found
+  pub is : refusal.cause ≡ cause
 
-one_less : (entry : Fetched) (rest : List Fetched) (n : ℕ) → length (entry ∷ rest) ≡ suc n → length rest ≡ n
-one_less entry rest n l = omega (arith, l)
-
--- one file by what its fetch gave: a fault, more bytes than the limit, bytes that are refused, or bytes that are read
-pub file_ends : {A : Type 0} (C : Status → Type 0) (check : List ℕ → Result A Refusal) (name : List ℕ)
-    (next : A → List Fetched → Outcome) (gave : List Fetched) (n : ℕ)
-    → length gave ≡ suc n
-    → ((rest : List Fetched) → gave ≡ Fault ∷ rest → length rest ≡ n → C ends.ReadFault)
-    → ((rest : List Fetched) → gave ≡ TooLong ∷ rest → length rest ≡ n → C ends.FileTooLong)
-    → ((bytes : List ℕ) (rest : List Fetched) (refusal : Refusal) → gave ≡ Bytes bytes ∷ rest → length rest ≡ n
-    → check bytes ≡ Err refusal → C (status_of refusal.cause))
-    → ((bytes : List ℕ) (rest : List Fetched) (a : A) → gave ≡ Bytes bytes ∷ rest → length rest ≡ n → check bytes ≡ Ok a
-    → C (next a rest).status)
-    → C (reading check name next gave).status
-unfolding reading
-file_ends C check name next [] n l fault long bad good = absurd (omega (arith, l))
-file_ends C check name next (Fault ∷ rest) n l fault long bad good = fault rest refl (one_less Fault rest n l)
-file_ends C check name next (TooLong ∷ rest) n l fault long bad good = long rest refl (one_less TooLong rest n l)
-file_ends C check name next (Bytes bytes ∷ rest) n l fault long bad good =
-    let left = one_less (Bytes bytes) rest n l in
-    checked_ends C (check bytes) (λ a. next a rest) (λ refusal e. bad bytes rest refusal refl left e)
-    (λ a e. good bytes rest a refl left e)
+-- what a check tells of the bytes of a file: it accepts those that are read as a value, and refuses for one cause those at fault
+pub record IsCheck {A : Type 0} (check : List ℕ → Result A Refusal) (Is : List ℕ → A → Type 0)
+    (AtFault : List ℕ → Type 0) (cause : Cause) : Type 0 where
+  pub accepted : (bytes : List ℕ) (a : A) → check bytes ≡ Ok a → Is bytes a
+  pub refused : (bytes : List ℕ) (refusal : Refusal) → check bytes ≡ Err refusal → IsRefusal (AtFault bytes) cause refusal
+  pub accepts : (bytes : List ℕ) (a : A) → Is bytes a → check bytes ≡ Ok a
+  pub refuses : (bytes : List ℕ) → AtFault bytes
+      → (line : List ℕ) × (check bytes ≡ Err (record { cause = cause; line = line }))
 
 -- a file that is read is passed on to the next step
-pub file_read : {A : Type 0} (check : List ℕ → Result A Refusal) (name : List ℕ) (next : A → List Fetched → Outcome)
-    (gave : List Fetched) (bytes : List ℕ) (rest : List Fetched) (a : A)
-    → gave ≡ Bytes bytes ∷ rest → check bytes ≡ Ok a → reading check name next gave ≡ next a rest
+pub file_read : {A : Type 0} {check : List ℕ → Result A Refusal} {Is : List ℕ → A → Type 0} {AtFault : List ℕ → Type 0}
+    {cause : Cause}
+    → IsCheck check Is AtFault cause → (name : List ℕ) (next : A → List Fetched → Outcome) (bytes : List ℕ)
+    (rest : List Fetched) (a : A) → Is bytes a
+    → reading check name next (Bytes bytes ∷ rest) ≡ next a rest
 unfolding reading
-file_read check name next gave bytes rest a e c = rw (e, c) refl
+file_read told name next bytes rest a is = rw (told.accepts bytes a is) refl
 
--- a file that is refused ends the run
-pub file_refused : {A : Type 0} (check : List ℕ → Result A Refusal) (name : List ℕ) (next : A → List Fetched → Outcome)
-    (gave : List Fetched) (bytes : List ℕ) (rest : List Fetched)
-    (cause : Cause) (line : List ℕ)
-    → gave ≡ Bytes bytes ∷ rest → check bytes ≡ Err (record { cause = cause; line = line })
-    → (reading check name next gave).status ≡ status_of cause
+-- a file at fault ends the run
+pub file_refused : {A : Type 0} {check : List ℕ → Result A Refusal} {Is : List ℕ → A → Type 0} {AtFault : List ℕ → Type 0}
+    {cause : Cause}
+    → IsCheck check Is AtFault cause → (name : List ℕ) (next : A → List Fetched → Outcome) (bytes : List ℕ)
+    (rest : List Fetched) → AtFault bytes
+    → (reading check name next (Bytes bytes ∷ rest)).status ≡ status_of cause
 unfolding reading
-file_refused check name next gave bytes rest cause line e c = rw (e, c) refl
+file_refused told name next bytes rest at = let (line, is) = told.refuses bytes at in rw is refl
 
 -- the status of a fetch that gave no bytes
 abbrev pub missed_status : Fetched → Option Status
@@ -75,152 +57,90 @@ missed_status (Bytes bytes) = None
 missed_status TooLong = Some ends.FileTooLong
 missed_status Fault = Some ends.ReadFault
 
-missed_as : {A : Type 0} (check : List ℕ → Result A Refusal) (name : List ℕ) (next : A → List Fetched → Outcome)
+-- a file whose fetch gave no bytes ends the run
+pub file_missed : {A : Type 0} (check : List ℕ → Result A Refusal) (name : List ℕ) (next : A → List Fetched → Outcome)
     (entry : Fetched) (rest : List Fetched) (status : Status)
     → missed_status entry ≡ Some status → (reading check name next (entry ∷ rest)).status ≡ status
 unfolding reading
-missed_as check name next (Bytes bytes) rest status m = absurd (let f : ⊥ = cc in f)
-missed_as check name next TooLong rest status m = cc
-missed_as check name next Fault rest status m = cc
+file_missed check name next (Bytes bytes) rest status m = absurd (let f : ⊥ = cc in f)
+file_missed check name next TooLong rest status m = cc
+file_missed check name next Fault rest status m = cc
 
--- a file whose fetch gave no bytes ends the run
-pub file_missed : {A : Type 0} (check : List ℕ → Result A Refusal) (name : List ℕ) (next : A → List Fetched → Outcome)
-    (gave : List Fetched) (entry : Fetched) (rest : List Fetched)
-    (status : Status)
-    → missed_status entry ≡ Some status → gave ≡ entry ∷ rest → (reading check name next gave).status ≡ status
-file_missed check name next gave entry rest status m e =
-    ap (λ (g : List Fetched). (reading check name next g).status) e ∙ missed_as check name next entry rest status m
+-- a check by the first fault of the bytes
+module _ {A F : Type 0} (cause : Cause) (line : F → List ℕ) where
+  -- what was read where no fault was found, or else the refusal of the fault
+  abbrev judged : Option F → A → Result A Refusal
+  judged (Some fault) read = Err (record { cause = cause; line = line fault })
+  judged None read = Ok read
 
--- a finding, and a refusal of this cause
-pub record IsRefusal {A : Type 0} (finding : A → Type 0) (cause : Cause) (refusal : Refusal) : Type 0 where
-  pub fault : A
-  pub found : finding fault
-  pub is : refusal.cause ≡ cause
+  judged_sound : (found : Option F) (read value : A) → judged found read ≡ Ok value → IsSound found read value
+  judged_sound (Some fault) read value e = absurd (let f : ⊥ = cc in f)
+  judged_sound None read value e = record { sound = refl; is = cc }
 
--- legal settings
-pub record AreSettings (bytes : List ℕ) (cell : RawCell) : Type 0 where
-  pub sound : first_fault_in bytes ≡ None
-  pub is : cell ≡ raw_in bytes
+  judged_fault : (found : Option F) (read : A) (refusal : Refusal) → judged found read ≡ Err refusal
+      → IsRefusal (HasFault found) cause refusal
+  judged_fault (Some fault) read refusal e =
+      let same : record { cause = cause; line = line fault } ≡ refusal = cc in
+      record { found = record { fault = fault; is = refl }; is = ap (λ (r : Refusal). r.cause) (sym same) }
+  judged_fault None read refusal e = absurd (let f : ⊥ = cc in f)
 
-settings_by : (bytes : List ℕ) (found : Finding) (cell : RawCell) → first_fault_in bytes ≡ found
-    → settings_found found (raw_in bytes) ≡ Ok cell → AreSettings bytes cell
-settings_by bytes (Some fault) cell f e = absurd (let g : ⊥ = cc in g)
-settings_by bytes None cell f e = record { sound = f; is = cc }
+  judged_check : (first : List ℕ → Option F) (read : List ℕ → A)
+      → IsCheck (λ bytes. judged (first bytes) (read bytes)) (λ bytes. IsSound (first bytes) (read bytes))
+      (λ bytes. HasFault (first bytes)) cause
+  judged_check first read = record {
+    accepted = λ bytes value e. judged_sound (first bytes) (read bytes) value e;
+    refused = λ bytes refusal e. judged_fault (first bytes) (read bytes) refusal e;
+    accepts = λ bytes value s. ap (λ found. judged found (read bytes)) s.sound ∙ ap (λ (a : A). Ok a) (sym s.is);
+    refuses = λ bytes some. (line some.fault, ap (λ found. judged found (read bytes)) some.is);
+  }
 
-pub settings_good : (bytes : List ℕ) (cell : RawCell) → settings_of bytes ≡ Ok cell → AreSettings bytes cell
+-- the first file of most commands: legal settings
+pub settings_check : IsCheck settings_of AreSettings AreNoSettings BadSettings
 unfolding settings_of
-settings_good bytes cell e = settings_by bytes (first_fault_in bytes) cell refl e
+settings_check = judged_check BadSettings settings_line first_fault_in raw_in
 
-refused_by : (bytes : List ℕ) (found : Finding) (refusal : Refusal) → first_fault_in bytes ≡ found
-    → settings_found found (raw_in bytes) ≡ Err refusal
-    → IsRefusal (λ (fault : SettingsFault). first_fault_in bytes ≡ Some fault) BadSettings refusal
-refused_by bytes (Some fault) refusal f e =
-    let same : record { cause = BadSettings; line = settings_line fault } ≡ refusal = cc in
-    record { fault = fault; found = f; is = ap (λ (r : Refusal). r.cause) (sym same) }
-refused_by bytes None refusal f e = absurd (let g : ⊥ = cc in g)
+-- the last file of `write`: the grants of a slot of the cell
+pub grants_check : (cell : RawCell) → IsCheck (grants_of cell) (AreGrants cell) (AreNoGrants cell) BadGrants
+unfolding grants_of
+grants_check cell = judged_check BadGrants grants_line (first_grants_fault cell.mu) grants_in
 
-pub settings_bad : (bytes : List ℕ) (refusal : Refusal) → settings_of bytes ≡ Err refusal
-    → IsRefusal (λ (fault : SettingsFault). first_fault_in bytes ≡ Some fault) BadSettings refusal
-unfolding settings_of
-settings_bad bytes refusal e = refused_by bytes (first_fault_in bytes) refusal refl e
-
-pub settings_faulty : (bytes : List ℕ) (fault : SettingsFault) → first_fault_in bytes ≡ Some fault
-    → settings_of bytes ≡ Err (record { cause = BadSettings; line = settings_line fault })
-unfolding settings_of
-settings_faulty bytes fault e = ap (λ found. settings_found found (raw_in bytes)) e
-
--- the numbers of a table
-table_by : (line : TableFault → List ℕ) (found : Result (List ℕ) TableFault) (numbers : List ℕ)
+table_good : (line : TableFault → List ℕ) (found : Result (List ℕ) TableFault) (numbers : List ℕ)
     → table_found line found ≡ Ok numbers → found ≡ Ok numbers
-table_by line (Ok other) numbers e = let same : other ≡ numbers = cc in ap (λ (n : List ℕ). Ok n) same
-table_by line (Err fault) numbers e = absurd (let g : ⊥ = cc in g)
+table_good line (Ok other) numbers e = let same : other ≡ numbers = cc in ap (λ (n : List ℕ). Ok n) same
+table_good line (Err fault) numbers e = absurd (let g : ⊥ = cc in g)
 
-table_refused_by : (line : TableFault → List ℕ) (found : Result (List ℕ) TableFault) (refusal : Refusal)
-    → table_found line found ≡ Err refusal
-    → IsRefusal (λ (fault : TableFault). found ≡ Err fault) BadTable refusal
-table_refused_by line (Ok numbers) refusal e = absurd (let g : ⊥ = cc in g)
-table_refused_by line (Err fault) refusal e =
+table_bad : (line : TableFault → List ℕ) (count : ℕ) (bytes : List ℕ) (found : Result (List ℕ) TableFault)
+    (refusal : Refusal) → read_table count bytes ≡ found → table_found line found ≡ Err refusal
+    → IsRefusal (IsNoTable count bytes) BadTable refusal
+table_bad line count bytes (Ok numbers) refusal f e = absurd (let g : ⊥ = cc in g)
+table_bad line count bytes (Err fault) refusal f e =
     let same : record { cause = BadTable; line = line fault } ≡ refusal = cc in
-    record { fault = fault; found = refl; is = ap (λ (r : Refusal). r.cause) (sym same) }
+    record { found = record { fault = fault; is = f }; is = ap (λ (r : Refusal). r.cause) (sym same) }
 
-pub reliability_good : (bytes numbers : List ℕ) → reliability_of bytes ≡ Ok numbers → read_table 1024 bytes ≡ Ok numbers
+-- a table of so many numbers, with the line of its faults
+table_check : (line : TableFault → List ℕ) (count : ℕ)
+    → IsCheck (λ bytes. table_found line (read_table count bytes)) (IsTable count) (IsNoTable count) BadTable
+table_check line count = record {
+  accepted = λ bytes numbers e. table_good line (read_table count bytes) numbers e;
+  refused = λ bytes refusal e. table_bad line count bytes (read_table count bytes) refusal refl e;
+  accepts = λ bytes numbers is. ap (table_found line) is;
+  refuses = λ bytes none. (line none.fault, ap (table_found line) none.is);
+}
+
+-- the reliability table
+pub reliability_check : IsCheck reliability_of (IsTable 1024) (IsNoTable 1024) BadTable
 unfolding reliability_of
-reliability_good bytes numbers e = table_by reliability_line (read_table 1024 bytes) numbers e
+reliability_check = table_check reliability_line 1024
 
-pub reliability_bad : (bytes : List ℕ) (refusal : Refusal) → reliability_of bytes ≡ Err refusal
-    → IsRefusal (λ (fault : TableFault). read_table 1024 bytes ≡ Err fault) BadTable refusal
-unfolding reliability_of
-reliability_bad bytes refusal e = table_refused_by reliability_line (read_table 1024 bytes) refusal e
-
-pub reliability_faulty : (bytes : List ℕ) (fault : TableFault) → read_table 1024 bytes ≡ Err fault
-    → reliability_of bytes ≡ Err (record { cause = BadTable; line = reliability_line fault })
-unfolding reliability_of
-reliability_faulty bytes fault e = ap (table_found reliability_line) e
-
-pub input_order_good : (bytes numbers : List ℕ) → input_order_of bytes ≡ Ok numbers → read_table 164 bytes ≡ Ok numbers
+-- the input order
+pub input_order_check : IsCheck input_order_of (IsTable 164) (IsNoTable 164) BadTable
 unfolding input_order_of
-input_order_good bytes numbers e = table_by input_order_line (read_table 164 bytes) numbers e
-
-pub input_order_bad : (bytes : List ℕ) (refusal : Refusal) → input_order_of bytes ≡ Err refusal
-    → IsRefusal (λ (fault : TableFault). read_table 164 bytes ≡ Err fault) BadTable refusal
-unfolding input_order_of
-input_order_bad bytes refusal e = table_refused_by input_order_line (read_table 164 bytes) refusal e
-
-pub input_order_faulty : (bytes : List ℕ) (fault : TableFault) → read_table 164 bytes ≡ Err fault
-    → input_order_of bytes ≡ Err (record { cause = BadTable; line = input_order_line fault })
-unfolding input_order_of
-input_order_faulty bytes fault e = ap (table_found input_order_line) e
-
--- the grants of a slot
-pub record AreGrants (cell : RawCell) (bytes : List ℕ) (list : GrantList) : Type 0 where
-  pub sound : first_grants_fault cell.mu bytes ≡ None
-  pub is : list ≡ grants_in bytes
-
-grants_by : (cell : RawCell) (bytes : List ℕ) (found : grants.Finding) (list : GrantList)
-    → first_grants_fault cell.mu bytes ≡ found → grants_found found (grants_in bytes) ≡ Ok list
-    → AreGrants cell bytes list
-grants_by cell bytes (Some fault) list f e = absurd (let g : ⊥ = cc in g)
-grants_by cell bytes None list f e = record { sound = f; is = cc }
-
-pub grants_good : (cell : RawCell) (bytes : List ℕ) (list : GrantList) → grants_of cell bytes ≡ Ok list
-    → AreGrants cell bytes list
-unfolding grants_of
-grants_good cell bytes list e = grants_by cell bytes (first_grants_fault cell.mu bytes) list refl e
-
-grants_refused_by : (cell : RawCell) (bytes : List ℕ) (found : grants.Finding) (refusal : Refusal)
-    → first_grants_fault cell.mu bytes ≡ found
-    → grants_found found (grants_in bytes) ≡ Err refusal
-    → IsRefusal (λ (fault : GrantFault). first_grants_fault cell.mu bytes ≡ Some fault) BadGrants refusal
-grants_refused_by cell bytes (Some fault) refusal f e =
-    let same : record { cause = BadGrants; line = grants_line fault } ≡ refusal = cc in
-    record { fault = fault; found = f; is = ap (λ (r : Refusal). r.cause) (sym same) }
-grants_refused_by cell bytes None refusal f e = absurd (let g : ⊥ = cc in g)
-
-pub grants_bad : (cell : RawCell) (bytes : List ℕ) (refusal : Refusal) → grants_of cell bytes ≡ Err refusal
-    → IsRefusal (λ (fault : GrantFault). first_grants_fault cell.mu bytes ≡ Some fault) BadGrants refusal
-unfolding grants_of
-grants_bad cell bytes refusal e = grants_refused_by cell bytes (first_grants_fault cell.mu bytes) refusal refl e
-
-pub grants_faulty : (cell : RawCell) (bytes : List ℕ) (fault : GrantFault) → first_grants_fault cell.mu bytes ≡ Some fault
-    → grants_of cell bytes ≡ Err (record { cause = BadGrants; line = grants_line fault })
-unfolding grants_of
-grants_faulty cell bytes fault e = ap (λ found. grants_found found (grants_in bytes)) e
-
--- a grid of the cell
-pub record IsGridOf (cell : RawCell) (bytes : List ℕ) (points : GridValue) : Type 0 where
-  pub is : reading_of bytes ≡ Ok points
-  pub mu : points.mu ≡ cell.mu
-  pub blocks : points.blocks ≡ cell.blocks
-
--- bytes that are no grid of the cell are refused
-pub record IsGridRefusal (cell : RawCell) (bytes : List ℕ) (refusal : Refusal) : Type 0 where
-  pub found : IsNoGridOf cell bytes
-  pub is : refusal.cause ≡ BadGrid
+input_order_check = table_check input_order_line 164
 
 -- what is found of the bytes of a grid
 abbrev GridFound : RawCell → List ℕ → Result GridValue Refusal → Type 0
 GridFound cell bytes (Ok points) = IsGridOf cell bytes points
-GridFound cell bytes (Err refusal) = IsGridRefusal cell bytes refusal
+GridFound cell bytes (Err refusal) = IsRefusal (IsNoGridOf cell bytes) BadGrid refusal
 
 equal_from : (a b : ℕ) → (a == b) ≡ true → a ≡ b
 equal_from a b e = grind (arith, nat_tests)
@@ -249,14 +169,6 @@ grid_found : (cell : RawCell) (bytes : List ℕ) → GridFound cell bytes (grid_
 unfolding grid_of
 grid_found cell bytes = read_found cell bytes (reading_of bytes) refl
 
-pub grid_good : (cell : RawCell) (bytes : List ℕ) (points : GridValue) → grid_of cell bytes ≡ Ok points
-    → IsGridOf cell bytes points
-grid_good cell bytes points e = subst (GridFound cell bytes) e (grid_found cell bytes)
-
-pub grid_bad : (cell : RawCell) (bytes : List ℕ) (refusal : Refusal) → grid_of cell bytes ≡ Err refusal
-    → IsGridRefusal cell bytes refusal
-grid_bad cell bytes refusal e = subst (GridFound cell bytes) e (grid_found cell bytes)
-
 -- bytes that are no grid of the cell are not read as one
 no_grid_of : (cell : RawCell) (bytes : List ℕ) (points : GridValue) → IsNoGridOf cell bytes → IsGridOf cell bytes points → ⊥
 no_grid_of cell bytes points (NoText at e) grid = let f = sym e ∙ grid.is in cc
@@ -269,13 +181,27 @@ no_grid_of cell bytes points (OtherBlocks other e b) grid =
     let same : other ≡ points = cc in
     b (ap (λ (p : GridValue). p.blocks) same ∙ grid.blocks)
 
-refusal_of_grid : (cell : RawCell) (bytes : List ℕ) (found : Result GridValue Refusal) → IsNoGridOf cell bytes
+grid_refusal : (cell : RawCell) (bytes : List ℕ) (found : Result GridValue Refusal) → IsNoGridOf cell bytes
     → GridFound cell bytes found
     → (line : List ℕ) × (found ≡ Err (record { cause = BadGrid; line = line }))
-refusal_of_grid cell bytes (Ok points) none grid = absurd (no_grid_of cell bytes points none grid)
-refusal_of_grid cell bytes (Err refusal) none grid =
+grid_refusal cell bytes (Ok points) none grid = absurd (no_grid_of cell bytes points none grid)
+grid_refusal cell bytes (Err refusal) none grid =
     (refusal.line, ap (λ (c : Cause). Err (record { cause = c; line = refusal.line })) grid.is)
 
-pub grid_faulty : (cell : RawCell) (bytes : List ℕ) → IsNoGridOf cell bytes
-    → (line : List ℕ) × (grid_of cell bytes ≡ Err (record { cause = BadGrid; line = line }))
-grid_faulty cell bytes none = refusal_of_grid cell bytes (grid_of cell bytes) none (grid_found cell bytes)
+-- a grid of the cell is found as it is read
+grid_as_read : (cell : RawCell) (bytes : List ℕ) (points : GridValue) (found : Result GridValue Refusal)
+    → IsGridOf cell bytes points → GridFound cell bytes found → found ≡ Ok points
+grid_as_read cell bytes points (Ok other) grid is =
+    let both_are = sym is.is ∙ grid.is in
+    let same : other ≡ points = cc in
+    ap (λ (p : GridValue). Ok p) same
+grid_as_read cell bytes points (Err refusal) grid is = absurd (no_grid_of cell bytes points is.found grid)
+
+-- the last file of the other commands that take settings: a grid of the cell
+pub grid_check : (cell : RawCell) → IsCheck (grid_of cell) (IsGridOf cell) (IsNoGridOf cell) BadGrid
+grid_check cell = record {
+  accepted = λ bytes points e. subst (GridFound cell bytes) e (grid_found cell bytes);
+  refused = λ bytes refusal e. subst (GridFound cell bytes) e (grid_found cell bytes);
+  accepts = λ bytes points is. grid_as_read cell bytes points (grid_of cell bytes) is (grid_found cell bytes);
+  refuses = λ bytes none. grid_refusal cell bytes (grid_of cell bytes) none (grid_found cell bytes);
+}

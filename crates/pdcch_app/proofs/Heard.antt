@@ -80,6 +80,7 @@ only_within cell word (Some handset) handsets e h =
     one l (suc i) d m = absurd (omega (arith, m))
 only_within cell word None handsets e h = absurd (let f : ⊥ = cc in f)
 
+-- the reported handsets are some of the cell's
 pub reported_within : (cell : RawCell) (named : Option (List ℕ)) (handsets : List ℕ) → reported cell named ≡ Ok handsets
     → AreHandsets cell handsets
 reported_within cell (Some word) handsets h = only_within cell word (handset_named cell word) handsets refl h

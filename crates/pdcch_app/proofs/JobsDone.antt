@@ -16,13 +16,13 @@ use Rattle.cell_placer.specs.Opened.{SlotOver, opened}
 use Rattle.cell_placer.specs.Placing.{DeskValue, fates}
 use Rattle.run_steps.specs.declared.statuses.Status.{Status}
 use Rattle.run_steps.specs.declared.statuses.Status.TheVariants as ends
-use Rattle.run_steps.specs.Outcome.{Refusal, Cause, ended, status_of}
+use Rattle.run_steps.specs.Outcome.{Refusal, ended, status_of}
 use Rattle.pdcch_app.specs.Arguments.{number_of}
 use Rattle.pdcch_app.specs.Causes.{IsNamed, SomeExceeds, SomeRefused}
 use Rattle.pdcch_app.specs.Explaining.{explained, explained_by, explained_of, printed, unknown_watch}
 use Rattle.pdcch_app.specs.Reporting.{Listener, handset_named, only_handset, listeners_of, heard_by, heard_of_all, searched}
 use Rattle.pdcch_app.specs.Writing.{is_placed, written_on, written}
-use Rattle.pdcch_app.proofs.Exceeding.{OneExceeds, listeners_exceed, listeners_cause, listeners_within, all_of}
+use Rattle.pdcch_app.proofs.Exceeding.{OneExceeds, listeners_exceed, listeners_within, all_of}
 use Rattle.pdcch_app.proofs.Exceeding.{some_of_all, one_of_all, some_of_one, one_of_one, no_desk, named_is, none_named}
 
 -- some answer is a refusal where not all are placed
@@ -72,7 +72,7 @@ pub write_ends : (C : Status → Type 0) (cell : RawCell) (tables : Tables) (lis
 unfolding written
 write_ends C cell tables list over some none =
     written_status C cell tables list (opened cell list.frame list.slot (length list.grants))
-    (λ slot e. over (no_desk cell list.frame list.slot (length list.grants) slot e)) some none
+    (λ slot e. over (no_desk cell list slot e)) some none
 
 -- handsets that have their watches, or the common sets of one of which exceed a limit
 heard_status : (C : Status → Type 0) (cell : RawCell) (tables : Tables) (points : GridValue) (handsets : List ℕ)
@@ -84,8 +84,8 @@ heard_status : (C : Status → Type 0) (cell : RawCell) (tables : Tables) (point
 heard_status C cell tables points handsets (Ok listeners) e over none =
     none (listeners_within cell points.frame points.slot handsets listeners e)
 heard_status C cell tables points handsets (Err refusal) e over none =
-    let cause = listeners_cause cell points.frame points.slot handsets refusal e in
-    subst (λ (c : Cause). C (status_of c)) (sym cause) (over (listeners_exceed cell points.frame points.slot handsets refusal e))
+    let fault = listeners_exceed cell points.frame points.slot handsets refusal e in
+    subst (λ (r : Refusal). C (status_of r.cause)) (sym fault.is) (over fault.one)
 
 -- the same of the handset with a name, where the cell has it
 named_status : (C : Status → Type 0) (cell : RawCell) (tables : Tables) (points : GridValue) (name : List ℕ)
@@ -123,6 +123,12 @@ watch_status : (C : Status → Type 0) (number count : ℕ) (text word : List �
 watch_status C number count text word true e unknown none = none (grind (arith, nat_tests))
 watch_status C number count text word false e unknown none = unknown (grind (arith, nat_tests))
 
+-- the handset with a name has so many watches in the slot of a grid, and a run ends so
+abbrev pub EndsAmong : RawCell → GridValue → List ℕ → (ℕ → Type 0) → Type 0 → Type 0
+EndsAmong cell points name Count Ends =
+    (handset : ℕ) (watches : List Watch) → handset_named cell name ≡ Some handset
+    → planned cell handset points.frame points.slot ≡ Ok watches → Count (length watches) → Ends
+
 -- a handset has its watches, or its common sets exceed a limit
 explained_status : (C : Status → Type 0) (cell : RawCell) (tables : Tables) (points : GridValue) (name word : List ℕ)
     (handset : ℕ) (plan : Result (List Watch) CommonOver)
@@ -144,12 +150,8 @@ asked_status : (C : Status → Type 0) (cell : RawCell) (tables : Tables) (point
     (found : Option ℕ) → handset_named cell name ≡ found
     → ((IsNamed cell name → ⊥) → C ends.NoSuch)
     → (SomeExceeds cell (Some name) points.frame points.slot → C ends.SlotRefused)
-    → ((handset : ℕ) (watches : List Watch) → handset_named cell name ≡ Some handset
-    → planned cell handset points.frame points.slot ≡ Ok watches → length watches ≤ number_of word
-    → C ends.NoSuch)
-    → ((handset : ℕ) (watches : List Watch) → handset_named cell name ≡ Some handset
-    → planned cell handset points.frame points.slot ≡ Ok watches → number_of word < length watches
-    → C ends.Done)
+    → EndsAmong cell points name (λ count. count ≤ number_of word) (C ends.NoSuch)
+    → EndsAmong cell points name (λ count. number_of word < count) (C ends.Done)
     → C (ended (explained_of cell tables points name word found)).status
 asked_status C cell tables points name word None e unnamed over unknown none = unnamed (none_named cell name e)
 asked_status C cell tables points name word (Some handset) e unnamed over unknown none =
@@ -160,12 +162,8 @@ asked_status C cell tables points name word (Some handset) e unnamed over unknow
 pub explain_ends : (C : Status → Type 0) (cell : RawCell) (tables : Tables) (points : GridValue) (name word : List ℕ)
     → ((IsNamed cell name → ⊥) → C ends.NoSuch)
     → (SomeExceeds cell (Some name) points.frame points.slot → C ends.SlotRefused)
-    → ((handset : ℕ) (watches : List Watch) → handset_named cell name ≡ Some handset
-    → planned cell handset points.frame points.slot ≡ Ok watches → length watches ≤ number_of word
-    → C ends.NoSuch)
-    → ((handset : ℕ) (watches : List Watch) → handset_named cell name ≡ Some handset
-    → planned cell handset points.frame points.slot ≡ Ok watches → number_of word < length watches
-    → C ends.Done)
+    → EndsAmong cell points name (λ count. count ≤ number_of word) (C ends.NoSuch)
+    → EndsAmong cell points name (λ count. number_of word < count) (C ends.Done)
     → C (ended (explained cell tables points name word)).status
 unfolding explained
 explain_ends C cell tables points name word = asked_status C cell tables points name word (handset_named cell name) refl

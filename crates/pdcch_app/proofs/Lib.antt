@@ -1,13 +1,13 @@
 pub mod Numbers
 pub mod Usages
 pub mod NamedFiles
+pub mod InOrder
 pub mod RunPromises
 pub mod ExplainedWatches
 pub mod Listeners
 pub mod Explainings
 pub mod Asked
 pub mod AskedSlots
-pub mod SlotsOver
 pub mod Placings
 pub mod Spellings
 pub mod Heard

@@ -34,6 +34,7 @@ pub record AreReported (cell : RawCell) (tables : Tables) (grid : GridValue) (ha
   pub are : listeners_of cell grid.frame grid.slot handsets ≡ Ok listeners
   pub text_is : text ≡ reported_text cell tables grid listeners
 
+-- in the head of a report none were
 pub none_reported : (cell : RawCell) (tables : Tables) (grid : GridValue) (text : List ℕ) → text ≡ head_text grid.frame grid.slot
     → AreReported cell tables grid [] text
 none_reported cell tables grid text e =
@@ -103,36 +104,66 @@ text_more cell tables grid listeners last =
     ∙ ap (λ xs. head ++ xs) (ap (λ xs. flat_map each listeners ++ xs) (sym (append-nil (each last)))
     ∙ sym (flat_map-append each listeners (last ∷ [])))
 
-pub reported_more : (cell : RawCell) (tables : Tables) (grid : GridValue) (handsets : List ℕ) (n : ℕ) (handset : ℕ)
-    (old new : List ℕ) → n < length handsets
-    → get_or handsets n 0 ≡ handset → AreReported cell tables grid (take n handsets) old
-    → Appended cell tables grid handset old new
-    → AreReported cell tables grid (take (n + 1) handsets) new
-reported_more cell tables grid handsets n handset old new l at h a =
-    let P : List ℕ → Type 0 = λ hs. AreReported cell tables grid hs new in
-    let last = one handset a.watches in
-    subst P (sym (take_more handsets n 0 l ∙ ap (λ k. take n handsets ++ k ∷ []) at)) (record {
-      listeners = h.listeners ++ last ∷ [];
-      are = listeners_more cell grid.frame grid.slot (take n handsets) h.listeners handset a.watches h.are a.planned_is;
-      text_is =
-          a.text ∙ ap (λ xs. xs ++ listener_text cell tables grid last) h.text_is ∙ text_more cell tables grid h.listeners last;
-    })
+-- the handsets from one place up to another were reported in a text as far as those before this one
+abbrev pub ReportedUpTo : RawCell → Tables → GridValue → ℕ → ℕ → ℕ → List ℕ → Type 0
+ReportedUpTo cell tables grid first end handset =
+    AreReported cell tables grid (take (handset - first) (range_with_len first (end - first)))
 
--- the handsets from one place up to another
-pub at_range : (first end handset : ℕ) → first ≤ handset → handset < end
-    → get_or (range_with_len first (end - first)) (handset - first) 0 ≡ handset
-at_range first end handset l h =
-    get_or-range_with_len first (end - first) (handset - first) 0 (omega (arith, l, h)) ∙ omega (arith, l)
+-- a handset of these, where those before it were reported
+module _ (cell : RawCell) (tables : Tables) (grid : GridValue) (first end handset : ℕ) (text : List ℕ)
+    (least : first ≤ handset) (below : handset < end) (so_far : ReportedUpTo cell tables grid first end handset text) where
+  at_range : get_or (range_with_len first (end - first)) (handset - first) 0 ≡ handset
+  at_range =
+      get_or-range_with_len first (end - first) (handset - first) 0 (omega (arith, least, below)) ∙ omega (arith, least)
 
-pub within_range : (first end handset : ℕ) → first ≤ handset → handset < end
-    → handset - first < length (range_with_len first (end - first))
-within_range first end handset l h = omega (arith, l, h, length-range_with_len first (end - first))
+  within_range : handset - first < length (range_with_len first (end - first))
+  within_range = omega (arith, least, below, length-range_with_len first (end - first))
 
-pub past_range : (first end handset : ℕ) → end ≤ handset → length (range_with_len first (end - first)) ≤ handset - first
-past_range first end handset l = omega (arith, l, length-range_with_len first (end - first))
+  -- it is reported too, where its lines were appended
+  pub reported_more : (new : List ℕ) → Appended cell tables grid handset text new
+      → ReportedUpTo cell tables grid first end (handset + 1) new
+  reported_more new a =
+      let handsets = range_with_len first (end - first) in
+      let n = handset - first in
+      let P : List ℕ → Type 0 = λ hs. AreReported cell tables grid hs new in
+      let Q : ℕ → Type 0 = λ k. AreReported cell tables grid (take k handsets) new in
+      let last = one handset a.watches in
+      let next : n + 1 ≡ handset + 1 - first = omega (arith, least) in
+      subst Q next
+      (subst P (sym (take_more handsets n 0 within_range ∙ ap (λ k. take n handsets ++ k ∷ []) at_range)) (record {
+        listeners = so_far.listeners ++ last ∷ [];
+        are =
+            listeners_more cell grid.frame grid.slot (take n handsets) so_far.listeners handset a.watches so_far.are
+            a.planned_is;
+        text_is =
+            a.text ∙ ap (λ xs. xs ++ listener_text cell tables grid last) so_far.text_is
+            ∙ text_more cell tables grid so_far.listeners last;
+      }))
+
+  -- or it has no plan
+  not_reported : (outcome : Outcome) → IsOver cell grid handset outcome
+      → outcome ≡ ended (heard_by cell tables grid (listeners_of cell grid.frame grid.slot (range_with_len first (end - first))))
+  not_reported outcome o =
+      let handsets = range_with_len first (end - first) in
+      let n = handset - first in
+      let split : handsets ≡ take n handsets ++ handset ∷ drop (n + 1) handsets =
+      sym (take-append-drop n handsets)
+      ∙ ap (λ xs. take n handsets ++ xs) (drop_more handsets n 0 within_range ∙ ap (λ k. k ∷ drop (n + 1) handsets) at_range) in
+      o.says
+      ∙ sym (ap (λ (hs : List ℕ). ended (heard_by cell tables grid (listeners_of cell grid.frame grid.slot hs))) split
+      ∙ ap (λ found. ended (heard_by cell tables grid found))
+      (listeners_refused cell grid.frame grid.slot (take n handsets) so_far.listeners handset o.over
+      (drop (n + 1) handsets) so_far.are o.planned_is))
+
+  -- and the stop at it ends the report
+  pub stopped_ends : (new : List ℕ) (stop : Stop) → Listens cell tables grid handset text new (Err stop)
+      → Ends (Err stop)
+      (ended (heard_by cell tables grid (listeners_of cell grid.frame grid.slot (range_with_len first (end - first)))))
+  stopped_ends new (Ended o) k = sym (not_reported o k)
+  stopped_ends new OutOfMemory k = tt
 
 -- all handsets were reported
-pub all_reported : (cell : RawCell) (tables : Tables) (grid : GridValue) (handsets : List ℕ) (n : ℕ) (text : List ℕ)
+all_reported : (cell : RawCell) (tables : Tables) (grid : GridValue) (handsets : List ℕ) (n : ℕ) (text : List ℕ)
     → length handsets ≤ n
     → AreReported cell tables grid (take n handsets) text
     → heard_by cell tables grid (listeners_of cell grid.frame grid.slot handsets)
@@ -144,20 +175,19 @@ all_reported cell tables grid handsets n text l h =
     printed : List ℕ → Result Printed Refusal
     printed t = Ok (record { whole = true; out = t; err = [] })
 
--- a handset has no plan
-pub not_reported : (cell : RawCell) (tables : Tables) (grid : GridValue) (handsets : List ℕ) (n handset : ℕ) (text : List ℕ)
-    (outcome : Outcome) → n < length handsets
-    → get_or handsets n 0 ≡ handset → AreReported cell tables grid (take n handsets) text → IsOver cell grid handset outcome
-    → outcome ≡ ended (heard_by cell tables grid (listeners_of cell grid.frame grid.slot handsets))
-not_reported cell tables grid handsets n handset text outcome l at h o =
-    let split : handsets ≡ take n handsets ++ handset ∷ drop (n + 1) handsets =
-    sym (take-append-drop n handsets)
-    ∙ ap (λ xs. take n handsets ++ xs) (drop_more handsets n 0 l ∙ ap (λ k. k ∷ drop (n + 1) handsets) at) in
-    o.says
-    ∙ sym (ap (λ (hs : List ℕ). ended (heard_by cell tables grid (listeners_of cell grid.frame grid.slot hs))) split
-    ∙ ap (λ found. ended (heard_by cell tables grid found))
-    (listeners_refused cell grid.frame grid.slot (take n handsets) h.listeners handset o.over (drop (n + 1) handsets) h.are
-    o.planned_is))
+-- the end, with all handsets reported
+pub all_ended : (cell : RawCell) (tables : Tables) (grid : GridValue) (first end handset : ℕ) (text err : List ℕ)
+    (outcome : Outcome) → end ≤ handset → ReportedUpTo cell tables grid first end handset text
+    → outcome ≡ record { status = ends.Done; out = text; err = err } → err ≡ []
+    → ended (heard_by cell tables grid (listeners_of cell grid.frame grid.slot (range_with_len first (end - first)))) ≡ outcome
+all_ended cell tables grid first end handset text err outcome l h e none =
+    let past : length (range_with_len first (end - first)) ≤ handset - first =
+    omega (arith, l, length-range_with_len first (end - first)) in
+    ap ended (all_reported cell tables grid (range_with_len first (end - first)) (handset - first) text past h)
+    ∙ sym (e ∙ ap (λ x. done x) none)
+  where
+    done : List ℕ → Outcome
+    done x = record { status = ends.Done; out = text; err = x }
 
 -- the name of a handset at its place
 pub name_of : (cell : RawCell) (handsets : List Handset) (handset : ℕ) (d : Handset) → handsets ≡ cell.handsets
@@ -167,29 +197,25 @@ name_of cell handsets handset d e h =
     ap (λ (hs : List Handset). (get_or hs handset d).name) e
     ∙ ap (λ (x : Handset). x.name) (get_or_default cell.handsets handset d no_handset h)
 
--- the slot of a grid
-planned_in : (cell : RawCell) (grid : GridValue) (handset frame slot : ℕ) → frame ≡ grid.frame → slot ≡ grid.slot
-    → planned cell handset grid.frame grid.slot ≡ planned cell handset frame slot
-planned_in cell grid handset frame slot f s =
-    sym (ap (λ x. planned cell handset x slot) f ∙ ap (planned cell handset grid.frame) s)
+-- the plan of a handset in the slot of a grid
+module _ (cell : RawCell) (grid : GridValue) (handset frame slot : ℕ) (f : frame ≡ grid.frame) (s : slot ≡ grid.slot) where
+  planned_in : planned cell handset grid.frame grid.slot ≡ planned cell handset frame slot
+  planned_in = sym (ap (λ x. planned cell handset x slot) f ∙ ap (planned cell handset grid.frame) s)
 
--- the plan of a handset in the slot of a grid is read, or its slot is refused
-pub plan_read : (cell : RawCell) (grid : GridValue) (handset frame slot : ℕ) (watches : List Watch) → frame ≡ grid.frame
-    → slot ≡ grid.slot
-    → planned cell handset frame slot ≡ Ok watches
-    → IsRead {A = List Watch} (Ok watches) (checked (watches_found cell handset (planned cell handset grid.frame grid.slot)))
-plan_read cell grid handset frame slot watches f s e =
-    ap (λ plan. checked (watches_found cell handset plan)) (planned_in cell grid handset frame slot f s ∙ e)
+  -- it is read
+  pub plan_read : (watches : List Watch) → planned cell handset frame slot ≡ Ok watches
+      → IsRead {A = List Watch} (Ok watches) (checked (watches_found cell handset (planned cell handset grid.frame grid.slot)))
+  plan_read watches e = ap (λ plan. checked (watches_found cell handset plan)) (planned_in ∙ e)
 
-pub plan_refused : (cell : RawCell) (grid : GridValue) (handset frame slot : ℕ) (name : List ℕ) (over : CommonOver)
-    (stop : Stop) → frame ≡ grid.frame → slot ≡ grid.slot
-    → name ≡ (handset_at cell handset).name → planned cell handset frame slot ≡ Err over
-    → IsStop (refused ends.SlotRefused (slot_line name over.candidates over.cces)) stop
-    → IsRead {A = List Watch} (Err stop) (checked (watches_found cell handset (planned cell handset grid.frame grid.slot)))
-plan_refused cell grid handset frame slot name over (Ended o) f s n e h =
-    ap (λ plan. checked (watches_found cell handset plan)) (planned_in cell grid handset frame slot f s ∙ e)
-    ∙ ap (λ (x : Outcome). Err x) (sym (h ∙ ap (λ x. refused ends.SlotRefused (slot_line x over.candidates over.cces)) n))
-plan_refused cell grid handset frame slot name over OutOfMemory f s n e h = tt
+  -- or the slot is refused, with the name of the handset
+  pub plan_refused : (name : List ℕ) (over : CommonOver) (stop : Stop) → name ≡ (handset_at cell handset).name
+      → planned cell handset frame slot ≡ Err over
+      → IsStop (refused ends.SlotRefused (slot_line name over.candidates over.cces)) stop
+      → IsRead {A = List Watch} (Err stop) (checked (watches_found cell handset (planned cell handset grid.frame grid.slot)))
+  plan_refused name over (Ended o) n e h =
+      ap (λ plan. checked (watches_found cell handset plan)) (planned_in ∙ e)
+      ∙ ap (λ (x : Outcome). Err x) (sym (h ∙ ap (λ x. refused ends.SlotRefused (slot_line x over.candidates over.cces)) n))
+  plan_refused name over OutOfMemory n e h = tt
 
 -- a plan that was read is the one of the slot
 pub plan_is : (cell : RawCell) (handset : ℕ) (plan : Result (List Watch) CommonOver) (watches : List Watch)
@@ -204,6 +230,7 @@ pub record SaysOver (cell : RawCell) (handset : ℕ) (plan : Result (List Watch)
   pub plan_is : plan ≡ Err over
   pub says : outcome ≡ ended (Err (over_limits cell handset over))
 
+-- a plan that was not read is over a limit
 pub plan_over : (cell : RawCell) (handset : ℕ) (plan : Result (List Watch) CommonOver) (outcome : Outcome)
     → checked (watches_found cell handset plan) ≡ Err outcome
     → SaysOver cell handset plan outcome
@@ -221,43 +248,29 @@ listens_over cell tables grid handset text (Ended o) h =
     record { over = is.over; planned_is = is.plan_is; says = is.says }
 listens_over cell tables grid handset text OutOfMemory h = tt
 
+-- the parts of the report of a handset with these watches
+pub record ReportParts (cell : RawCell) (tables : Tables) (grid : GridValue) (handset : ℕ) (watches : List Watch) : Type 0 where
+  pub name : List ℕ
+  pub plan : List Watch
+  pub found : List Heard
+  pub name_is : name ≡ (handset_at cell handset).name
+  pub plan_is : plan ≡ watches
+  pub found_is : found ≡ report_of tables grid watches
+
 -- the report of a handset with its plan
-pub appended_from : (cell : RawCell) (tables : Tables) (grid : GridValue) (handset : ℕ) (watches plan : List Watch)
-    (found : List Heard) (name old new : List ℕ)
-    → name ≡ (handset_at cell handset).name → planned cell handset grid.frame grid.slot ≡ Ok watches
-    → plan ≡ watches → found ≡ report_of tables grid watches → new ≡ old ++ report_text name plan found
+pub appended_from : (cell : RawCell) (tables : Tables) (grid : GridValue) (handset : ℕ) (watches : List Watch)
+    (parts : ReportParts cell tables grid handset watches) (old new : List ℕ)
+    → planned cell handset grid.frame grid.slot ≡ Ok watches → new ≡ old ++ report_text parts.name parts.plan parts.found
     → Appended cell tables grid handset old new
 unfolding listener_text
-appended_from cell tables grid handset watches plan found name old new n e p r t = record {
+appended_from cell tables grid handset watches parts old new e t = record {
   watches = watches;
   planned_is = e;
   text =
-      t ∙ ap (λ x. old ++ report_text x plan found) n ∙ ap (λ x. old ++ report_text (handset_at cell handset).name x found) p
-      ∙ ap (λ x. old ++ report_text (handset_at cell handset).name watches x) r;
+      t ∙ ap (λ x. old ++ report_text x parts.plan parts.found) parts.name_is
+      ∙ ap (λ x. old ++ report_text (handset_at cell handset).name x parts.found) parts.plan_is
+      ∙ ap (λ x. old ++ report_text (handset_at cell handset).name watches x) parts.found_is;
 }
-
--- a stop among the handsets
-pub stopped_ends : (cell : RawCell) (tables : Tables) (grid : GridValue) (handsets : List ℕ) (n handset : ℕ)
-    (text new : List ℕ) (stop : Stop) → n < length handsets
-    → get_or handsets n 0 ≡ handset → AreReported cell tables grid (take n handsets) text
-    → Listens cell tables grid handset text new (Err stop)
-    → Ends (Err stop) (ended (heard_by cell tables grid (listeners_of cell grid.frame grid.slot handsets)))
-stopped_ends cell tables grid handsets n handset text new (Ended o) l at h k =
-    sym (not_reported cell tables grid handsets n handset text o l at h k)
-stopped_ends cell tables grid handsets n handset text new OutOfMemory l at h k = tt
-
--- the end, with all handsets reported
-pub all_ended : (cell : RawCell) (tables : Tables) (grid : GridValue) (handsets : List ℕ) (n : ℕ) (text err : List ℕ)
-    (outcome : Outcome) → length handsets ≤ n
-    → AreReported cell tables grid (take n handsets) text → outcome ≡ record { status = ends.Done; out = text; err = err }
-    → err ≡ []
-    → ended (heard_by cell tables grid (listeners_of cell grid.frame grid.slot handsets)) ≡ outcome
-all_ended cell tables grid handsets n text err outcome l h e none =
-    ap ended (all_reported cell tables grid handsets n text l h)
-    ∙ sym (e ∙ ap (λ x. done x) none)
-  where
-    done : List ℕ → Outcome
-    done x = record { status = ends.Done; out = text; err = x }
 
 -- all handsets of a cell
 pub ends_all : (cell : RawCell) (tables : Tables) (grid : GridValue) (n : ℕ) (result : Result Outcome Stop)
@@ -283,6 +296,7 @@ pub handset_unknown : (name : List ℕ) (found : Option ℕ) (outcome : Outcome)
 handset_unknown name (Some other) outcome h = absurd (let f : ⊥ = cc in f)
 handset_unknown name None outcome h = let same : ended (Err (unknown_handset name)) ≡ outcome = cc in (refl, sym same)
 
+-- a name that no handset has is refused
 pub handset_refused : (name : List ℕ) (stop : Stop) (found : Option ℕ) → None ≡ found
     → IsStop (refused ends.NoSuch (no_such_handset_line name)) stop
     → IsRead {A = ℕ} (Err stop) (checked (handset_found name found))

@@ -17,6 +17,7 @@ pub record Serves (words : List (String Global)) (command : Command) : Type 0 wh
   pub legal_is : legal words ≡ Some command
   pub count : length (files command words) ≡ count_of command
 
+-- so it is for a command that was found of the words
 pub serves : (words : List (String Global)) (found command : Command) → Some found ≡ legal words
     → length (files found words) ≡ count_of found → found ≡ command → Serves words command
 serves words found command h l e = subst (Serves words) e (record { legal_is = sym h; count = l })

@@ -67,6 +67,7 @@ all_have cell tables grid (handset ∷ others) listeners known within e =
     (All-head In handset others within) refl
     (λ later f. all_have cell tables grid others later known (All-tail In handset others within) f) e
 
+-- each handset that is reported for a legal cell has its report
 pub reports_what_is_spelled : ReportsWhatIsSpelled
 reports_what_is_spelled settings reliability input_order tables points named handsets listeners none r i b n l =
     let cell = raw_in settings in

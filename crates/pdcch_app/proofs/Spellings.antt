@@ -1,6 +1,6 @@
 -- The words of a command and its arguments are read back, and no others are legal.
-use Rattle.std.proofs.Common.{◌≡◌, ℕ, Bool, true, false, cond, ◌&&◌, ◌⊎◌, inl, inr, option_and_then, List, [], ◌∷◌}
-use Rattle.std.proofs.Common.{◌++◌, Option, Some, None, String, map, flat_map, find, refl, sym, ◌∙◌, ap, subst, arith}
+use Rattle.std.proofs.Common.{◌≡◌, ℕ, true, cond, ◌&&◌, option_and_then, List, [], ◌∷◌}
+use Rattle.std.proofs.Common.{◌++◌, Option, Some, None, String, map, flat_map, refl, ◌∙◌, ap, subst, arith}
 use Rattle.std.specs.Str.{bytes_eq}
 use Rattle.std.specs.String.{string_bytes}
 use Rattle.std.specs.declared.alloc.Global.{Global}
@@ -76,6 +76,7 @@ pub record AreFor (command : Command) (list : List Argument) : Type 0 where
   pub many : are_as_many command list ≡ true
   pub numbers : are_slots command list ≡ true
 
+-- what makes arguments fit a command holds part by part
 pub are_parts : (command : Command) (list : List Argument) → are_for command list ≡ true → AreFor command list
 are_parts command list h =
     let counted = and_parts (are_plain list && are_formed list && are_as_many command list) (are_slots command list) h in
@@ -86,6 +87,7 @@ are_parts command list h =
 plain_if_for : (command : Command) (list : List Argument) → are_for command list ≡ true → are_plain list ≡ true
 plain_if_for command list h = (are_parts command list h).plain
 
+-- plain arguments are read of the words that spell them
 pub reads_spelled : ReadsWhatIsSpelled
 reads_spelled [] command list p e = search
 reads_spelled (w ∷ ws) command list p e = let rest : map string_bytes ws ≡ of_all list = cc in read_all list ws p rest
@@ -163,6 +165,7 @@ then_legal w ws command list f e =
     ap (λ o. option_and_then (λ c. cond (are_for c (arguments_after None ws)) (Some c) None) o) is
     ∙ ap (λ b. cond b (Some command) None) fits
 
+-- words are legal for a command exactly where they spell it with arguments for it
 pub legal_words : LegalWordsAreSpelled
 legal_words [] command =
     (λ e. absurd cc, λ t. let never : map (string_bytes {Z = Global}) [] ≡ spelled command t.0 = t.2 in absurd cc)

@@ -12,6 +12,7 @@ use Rattle.pdcch_app.specs.Lines.{usage_line}
 use Rattle.pdcch_app.specs.Outcomes.{outcome, served}
 use Rattle.pdcch_app.specs.Words.{legal, named, named_by}
 
+-- the refusal of words that are of no command is their whole work
 pub work_usage : (words : List (String Global)) (shelf : ShelfView) (stop : Stop) → legal words ≡ None
     → IsStop (refused Usage usage_line) stop → Work (outcome words) (named words) shelf shelf (Err stop)
 work_usage words shelf stop e h =

@@ -19,6 +19,7 @@ abbrev pub settings_found : Finding → RawCell → Result RawCell Refusal
 settings_found (Some fault) settings = Err (record { cause = BadSettings; line = settings_line fault })
 settings_found None settings = Ok settings
 
+-- the settings that bytes give, or their refusal
 unfoldable pub settings_of : List ℕ → Result RawCell Refusal
 settings_of bytes = settings_found (first_fault_in bytes) (raw_in bytes)
 
@@ -27,9 +28,11 @@ abbrev pub table_found : (TableFault → List ℕ) → Result (List ℕ) TableFa
 table_found line (Ok numbers) = Ok numbers
 table_found line (Err fault) = Err (record { cause = BadTable; line = line fault })
 
+-- the 1,024 numbers of a reliability table
 unfoldable pub reliability_of : List ℕ → Result (List ℕ) Refusal
 reliability_of bytes = table_found reliability_line (read_table 1024 bytes)
 
+-- the 164 numbers of an input order
 unfoldable pub input_order_of : List ℕ → Result (List ℕ) Refusal
 input_order_of bytes = table_found input_order_line (read_table 164 bytes)
 
@@ -38,6 +41,7 @@ abbrev pub grants_found : grants.Finding → GrantList → Result GrantList Refu
 grants_found (Some fault) list = Err (record { cause = BadGrants; line = grants_line fault })
 grants_found None list = Ok list
 
+-- the grants that bytes give for a cell, or their refusal
 unfoldable pub grants_of : RawCell → List ℕ → Result GrantList Refusal
 grants_of cell bytes = grants_found (first_grants_fault cell.mu bytes) (grants_in bytes)
 
@@ -54,5 +58,6 @@ abbrev pub grid_read : RawCell → Result GridValue ℕ → Result GridValue Ref
 grid_read cell (Ok grid) = grid_fitting cell grid
 grid_read cell (Err at) = Err (record { cause = BadGrid; line = grid_place_line at })
 
+-- the grid that bytes give for a cell, or their refusal
 unfoldable pub grid_of : RawCell → List ℕ → Result GridValue Refusal
 grid_of cell bytes = grid_read cell (reading_of bytes)

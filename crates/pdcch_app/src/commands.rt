@@ -9,7 +9,7 @@ ghost use Rattle.pdcch_app.specs.Words.{legal, handset, value};
 
 use crate::arguments::Flag;
 use crate::explaining::explain_named;
-use crate::files::{grants_at, grid_at, input_order_at, reliability_at, settings_at};
+use crate::files::{basis_at, grants_at, grid_at, tables_at};
 use crate::searching::{report_all, report_named};
 use crate::sweeping::sweep_text;
 use crate::words::{Command, handset, value};
@@ -39,15 +39,9 @@ pub fn write<S: Shelf>(
     ensures { Work (write_of settings.now reliability.now input_order.now grants.now)
         (settings.now ∷ reliability.now ∷ input_order.now ∷ grants.now ∷ []) (S.shows shelf.old) (S.shows shelf.new) result }
 {
-    let cell = settings_at(alloc, shelf, settings)?;
-    let reliability = reliability_at(alloc, shelf, reliability)?;
-    let input_order = input_order_at(alloc, shelf, input_order)?;
-    let list = grants_at(alloc, shelf, &cell, grants)?;
-    let tables = Tables {
-        reliability,
-        input_order,
-    };
-    write_text(alloc, &cell, &tables, &list)
+    let basis = basis_at(alloc, shelf, settings, reliability, input_order)?;
+    let list = grants_at(alloc, shelf, &basis.cell, grants)?;
+    write_text(alloc, &basis.cell, &basis.tables, &list)
 }
 
 /// The report of the handset that the words name, or else of all.
@@ -85,15 +79,9 @@ pub fn search<S: Shelf>(
     ensures { Work (search_of (handset words.now) settings.now reliability.now input_order.now grid.now)
         (settings.now ∷ reliability.now ∷ input_order.now ∷ grid.now ∷ []) (S.shows shelf.old) (S.shows shelf.new) result }
 {
-    let cell = settings_at(alloc, shelf, settings)?;
-    let reliability = reliability_at(alloc, shelf, reliability)?;
-    let input_order = input_order_at(alloc, shelf, input_order)?;
-    let points = grid_at(alloc, shelf, &cell, grid)?;
-    let tables = Tables {
-        reliability,
-        input_order,
-    };
-    search_text(alloc, words, &cell, &tables, &points)
+    let basis = basis_at(alloc, shelf, settings, reliability, input_order)?;
+    let points = grid_at(alloc, shelf, &basis.cell, grid)?;
+    search_text(alloc, words, &basis.cell, &basis.tables, &points)
 }
 
 /// The lines of the watch that the words ask for, of the handset that they name.
@@ -136,15 +124,9 @@ pub fn explain<S: Shelf>(
         settings.now reliability.now input_order.now grid.now)
         (settings.now ∷ reliability.now ∷ input_order.now ∷ grid.now ∷ []) (S.shows shelf.old) (S.shows shelf.new) result }
 {
-    let cell = settings_at(alloc, shelf, settings)?;
-    let reliability = reliability_at(alloc, shelf, reliability)?;
-    let input_order = input_order_at(alloc, shelf, input_order)?;
-    let points = grid_at(alloc, shelf, &cell, grid)?;
-    let tables = Tables {
-        reliability,
-        input_order,
-    };
-    explain_text(alloc, words, &cell, &tables, &points)
+    let basis = basis_at(alloc, shelf, settings, reliability, input_order)?;
+    let points = grid_at(alloc, shelf, &basis.cell, grid)?;
+    explain_text(alloc, words, &basis.cell, &basis.tables, &points)
 }
 
 /// Sums up the first slots of the generated load, with the two tables.
@@ -164,11 +146,6 @@ pub fn sweep<R: Threads + Sync, G: Gate, S: Shelf>(
     ensures { Work (sweep_of slots reliability.now input_order.now) (reliability.now ∷ input_order.now ∷ []) (S.shows shelf.old)
         (S.shows shelf.new) result }
 {
-    let reliability = reliability_at(alloc, shelf, reliability)?;
-    let input_order = input_order_at(alloc, shelf, input_order)?;
-    let tables = Tables {
-        reliability,
-        input_order,
-    };
+    let tables = tables_at(alloc, shelf, reliability, input_order)?;
     sweep_text(rt, alloc, gate, &tables, slots)
 }

@@ -1,9 +1,10 @@
 //! Fetches and checks each of the files.
-ghost use Rattle.std.specs.Prelude.{◌≡◌, ℕ, List, IfOk};
+ghost use Rattle.std.specs.Prelude.{◌≡◌, ◌∷◌, ℕ, List, [], IfOk};
 ghost use Rattle.grant_file.specs.Lists.{IsReadList};
 ghost use Rattle.run_steps.specs.Outcome.{checked};
-ghost use Rattle.run_steps.specs.Steps.{Step, IsRead};
+ghost use Rattle.run_steps.specs.Steps.{Begins, Step, IsRead};
 ghost use Rattle.pdcch_app.specs.Checks.{settings_of, reliability_of, input_order_of, grants_of, grid_fitting, grid_of};
+ghost use Rattle.pdcch_app.specs.Outcomes.{reading_basis, reading_tables};
 
 use crate::lines::{
     grants_line, grid_number_line, grid_place_line, input_order_line, reliability_line,
@@ -17,7 +18,14 @@ use run_steps::{Status, Stop, refusal, take};
 use settings_json::{SettingsError, read_settings};
 use slot_grid::Grid;
 use std::alloc::Global;
-use table_files::{InputOrder, Reliability, read_input_order, read_reliability};
+use table_files::{InputOrder, Reliability, Tables, read_input_order, read_reliability};
+
+/// What each job over a cell stands on.
+#[derive(Drop)]
+pub struct Basis {
+    pub cell: Cell,
+    pub tables: Tables,
+}
 
 #[tactic(auto, unfolding(crate::specs::Checks::settings_of))]
 fn read_cell(alloc: Global, text: &[u8]) -> Result<Cell, Stop>
@@ -109,7 +117,7 @@ fn read_grid(alloc: Global, cell: &Cell, text: &[u8]) -> Result<Grid, Stop>
 }
 
 /// The cell of a settings file.
-pub fn settings_at<S: Shelf>(alloc: Global, shelf: &mut S, name: &str) -> Result<Cell, Stop>
+fn settings_at<S: Shelf>(alloc: Global, shelf: &mut S, name: &str) -> Result<Cell, Stop>
     requires { S.may shelf.old name.now }
     ensures step { Step settings_of name.now (S.shows shelf.old) (S.shows shelf.new) result }
     ensures may { (n : List ℕ) → S.may shelf.old n → S.may shelf.new n }
@@ -119,11 +127,7 @@ pub fn settings_at<S: Shelf>(alloc: Global, shelf: &mut S, name: &str) -> Result
 }
 
 /// The reliability table of a file.
-pub fn reliability_at<S: Shelf>(
-    alloc: Global,
-    shelf: &mut S,
-    name: &str,
-) -> Result<Reliability, Stop>
+fn reliability_at<S: Shelf>(alloc: Global, shelf: &mut S, name: &str) -> Result<Reliability, Stop>
     requires { S.may shelf.old name.now }
     ensures step { Step reliability_of name.now (S.shows shelf.old) (S.shows shelf.new) result }
     ensures may { (n : List ℕ) → S.may shelf.old n → S.may shelf.new n }
@@ -133,17 +137,54 @@ pub fn reliability_at<S: Shelf>(
 }
 
 /// The input order of a file.
-pub fn input_order_at<S: Shelf>(
-    alloc: Global,
-    shelf: &mut S,
-    name: &str,
-) -> Result<InputOrder, Stop>
+fn input_order_at<S: Shelf>(alloc: Global, shelf: &mut S, name: &str) -> Result<InputOrder, Stop>
     requires { S.may shelf.old name.now }
     ensures step { Step input_order_of name.now (S.shows shelf.old) (S.shows shelf.new) result }
     ensures may { (n : List ℕ) → S.may shelf.old n → S.may shelf.new n }
 {
     let text = take(alloc, shelf, name)?;
     input_order_in(alloc, text.as_slice())
+}
+
+/// The two tables of two files.
+pub fn tables_at<S: Shelf>(
+    alloc: Global,
+    shelf: &mut S,
+    reliability: &str,
+    input_order: &str,
+) -> Result<Tables, Stop>
+    requires reliability { S.may shelf.old reliability.now }
+    requires input_order { S.may shelf.old input_order.now }
+    ensures begins { Begins (reading_tables reliability.now input_order.now) (reliability.now ∷ input_order.now ∷ [])
+        (S.shows shelf.old) (S.shows shelf.new) result }
+    ensures may { (n : List ℕ) → S.may shelf.old n → S.may shelf.new n }
+{
+    let reliability = reliability_at(alloc, shelf, reliability)?;
+    let input_order = input_order_at(alloc, shelf, input_order)?;
+    Ok(Tables {
+        reliability,
+        input_order,
+    })
+}
+
+/// The cell of a settings file, and the two tables of two files behind it.
+pub fn basis_at<S: Shelf>(
+    alloc: Global,
+    shelf: &mut S,
+    settings: &str,
+    reliability: &str,
+    input_order: &str,
+) -> Result<Basis, Stop>
+    requires settings { S.may shelf.old settings.now }
+    requires reliability { S.may shelf.old reliability.now }
+    requires input_order { S.may shelf.old input_order.now }
+    ensures begins { Begins (reading_basis settings.now reliability.now input_order.now)
+        (settings.now ∷ reliability.now ∷ input_order.now ∷ []) (S.shows shelf.old) (S.shows shelf.new) result }
+    ensures may { (n : List ℕ) → S.may shelf.old n → S.may shelf.new n }
+{
+    let cell = settings_at(alloc, shelf, settings)?;
+    let tables = tables_at(alloc, shelf, reliability, input_order)?;
+    Ok(Basis { cell, tables })
 }
 
 /// The grid of a file.

@@ -1,6 +1,6 @@
 -- The steps of a command, put together.
-use Rattle.std.proofs.Common.{◌≡◌, ◌<◌, ◌≤◌, inl, inr, ⊎_elim, ℕ, Bool, true, false, cond, List, [], ◌∷◌, Result, Ok}
-use Rattle.std.proofs.Common.{Err, map, refl, ap, sym, subst, ◌∙◌, arith}
+use Rattle.std.proofs.Common.{◌≡◌, ◌<◌, ◌≤◌, inl, inr, ⊎_elim, ℕ, Bool, true, false, cond, List, [], ◌∷◌, ◌++◌, Result}
+use Rattle.std.proofs.Common.{Ok, Err, map, refl, ap, sym, subst, ◌∙◌, arith}
 use Rattle.std.proofs.lemmas.Bool.{cases_lt}
 use Rattle.outside.specs.Causes.{Rose}
 use Rattle.outside.specs.Missed.{Missed}
@@ -12,7 +12,7 @@ use Rattle.run_steps.specs.Outcome.{Outcome, Cause, BadSettings, BadTable, BadGr
 use Rattle.run_steps.specs.Outcome.{Refusal, Printed, Fetched, Bytes, TooLong, Fault, checked, ended, unread, raw}
 use Rattle.run_steps.specs.Outcome.{read_as, reading, status_of, and_then}
 use Rattle.run_steps.specs.Steps.{Step, Work, IsGiven, AreGiven, IsLater, IsRead, IsStop, Ends, IsShort, Misses}
-use Rattle.run_steps.specs.Steps.{SpeaksOfNone, StepMisses, ReadsWith, answered, stopped_as}
+use Rattle.run_steps.specs.Steps.{Begins, SpeaksOfNone, StepMisses, ReadsWith, answered, stopped_as}
 use Rattle.run_steps.proofs.Taking.{given-unread}
 
 -- a count that rose within a longer run rose in it
@@ -266,6 +266,59 @@ work_step {A} next {check} {name} {names} {old} {mid} {new} {a} {result} step wo
           (λ (e : mid.longs ≡ old.longs). inr (h ∙ e)) step.short) work.short;
       later = later_join step.later work.later;
     }
+
+-- first steps of which the first reading went well
+pub begins_step : {A B : Type 0} (second : A → (B → List Fetched → Outcome) → List Fetched → Outcome)
+    {check : List ℕ → Result A Refusal} {name : List ℕ} {names : List (List ℕ)} {old mid new : ShelfView} {a : A}
+    {result : Result B Stop} → Step check name old mid (Ok a) → Begins (second a) names mid new result
+    → Begins (λ next. reading check name (λ a. second a next)) (name ∷ names) old new result
+begins_step second step begins = record {
+  goes_on = λ b e next later last answer work.
+      work_step (λ a. second a next) step (begins.goes_on b e next later last answer work);
+  stops = λ stop e next later. work_step (λ a. second a next) step (begins.stops stop e next later);
+}
+
+-- first steps that the first reading stops
+pub begins_stop : {A B : Type 0} (second : A → (B → List Fetched → Outcome) → List Fetched → Outcome)
+    {check : List ℕ → Result A Refusal} {name : List ℕ} (names : List (List ℕ)) {old new : ShelfView} {stop : Stop}
+    → Step check name old new (Err stop)
+    → Begins {A = B} (λ next. reading check name (λ a. second a next)) (name ∷ names) old new (Err stop)
+begins_stop second {check} {name} names {old} {new} {stop} step = record {
+  goes_on = λ b e. absurd (let never : ⊥ = cc in never);
+  stops = λ other e next later.
+      let same : stop ≡ other = cc in
+      subst (λ (s : Stop). Work (reading check name (λ a. second a next)) (name ∷ names ++ later) old new (Err s)) same
+      (work_stop (λ a. second a next) (names ++ later) step);
+}
+
+-- first steps behind which none is left
+pub begins_end : {A : Type 0} (a : A) (shelf : ShelfView) → Begins (λ next. next a) [] shelf shelf (Ok a)
+begins_end {A} a shelf = record {
+  goes_on = λ b e next later last answer work.
+      let same : b ≡ a = cc in subst (λ (x : A). Work (next x) later shelf last answer) same work;
+  stops = λ stop e. absurd (let never : ⊥ = cc in never);
+}
+
+-- first steps whose value is looked at in another way
+pub begins_as : {A B : Type 0} (f : A → B) {steps : (A → List Fetched → Outcome) → List Fetched → Outcome}
+    {names : List (List ℕ)} {old new : ShelfView} {a : A} → Begins steps names old new (Ok a)
+    → Begins (λ next. steps (λ x. next (f x))) names old new (Ok (f a))
+begins_as {A} {B} f {steps} {names} {old} {new} {a} begins = record {
+  goes_on = λ b e next later last answer work.
+      let same : b ≡ f a = cc in
+      begins.goes_on a refl (λ x. next (f x)) later last answer
+      (subst (λ (y : B). Work (next y) later new last answer) same work);
+  stops = λ stop e. absurd (let never : ⊥ = cc in never);
+}
+
+pub begins_stopped : {A B : Type 0} (f : A → B) {steps : (A → List Fetched → Outcome) → List Fetched → Outcome}
+    {names : List (List ℕ)} {old new : ShelfView} {stop : Stop} → Begins steps names old new (Err stop)
+    → Begins (λ next. steps (λ x. next (f x))) names old new (Err stop)
+begins_stopped f {steps} {names} {old} {new} {stop} begins = record {
+  goes_on = λ b e. absurd (let never : ⊥ = cc in never);
+  stops = λ other e next later.
+      let same : stop ≡ other = cc in begins.stops other (ap Err same) (λ x. next (f x)) later;
+}
 
 -- an answer of steps that fetched nothing
 answered_speaks : (o : Outcome) (result : Result Outcome Stop) → SpeaksOfNone o → Ends result o → SpeaksOfNone (answered result)

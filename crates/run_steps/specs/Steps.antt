@@ -117,3 +117,12 @@ pub record Work (outcome : List Fetched → Outcome) (names : List (List ℕ)) (
   pub quiet : ((outcome gave).status ≡ status.ReadFault) ⊎ (new.faults ≡ old.faults)
   pub short : ((outcome gave).status ≡ status.FileTooLong) ⊎ (new.longs ≡ old.longs)
   pub later : IsLater old new
+
+-- the first steps of a command, over these names: where they gave a value, the work from there on is work from their start; where
+-- they stopped, so does the command, and no file behind them is fetched
+pub record Begins {A : Type 0} (steps : (A → List Fetched → Outcome) → List Fetched → Outcome) (names : List (List ℕ))
+    (old new : ShelfView) (result : Result A Stop) : Type 0 where
+  pub goes_on : (a : A) → result ≡ Ok a → (next : A → List Fetched → Outcome) (later : List (List ℕ)) (last : ShelfView)
+      (answer : Result Outcome Stop) → Work (next a) later new last answer → Work (steps next) (names ++ later) old last answer
+  pub stops : (stop : Stop) → result ≡ Err stop → (next : A → List Fetched → Outcome) (later : List (List ℕ))
+      → Work (steps next) (names ++ later) old new (Err stop)

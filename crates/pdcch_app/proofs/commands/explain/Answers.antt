@@ -1,40 +1,34 @@
+use Rattle.std.proofs.Common.{refl}
 use Rattle.std.proofs.lemmas.Result.{err_from_is_err_and}
+use Rattle.run_steps.specs.Outcome.{ended, reading}
+use Rattle.run_steps.proofs.Working.{work_stop, work_step, work_job}
+use Rattle.pdcch_app.specs.Checks.{grid_of}
 use Rattle.pdcch_app.specs.declared.arguments.Flag.TheVariants.{Handset, Watch}
-use Rattle.pdcch_app.specs.Outcomes.{both}
 use Rattle.pdcch_app.specs.Explaining.{explained}
 use Rattle.pdcch_app.specs.Words.{value}
-use Rattle.run_steps.proofs.Working.{work_stop, work_step, work_job}
 use Rattle.pdcch_app.proofs.commands.explain.Goals as goal
 
-pub returns-in_err-cell : goal.returns-in_err-cell
-returns-in_err-cell g c =
+pub returns-in_err-basis : goal.returns-in_err-basis
+returns-in_err-basis g c =
     let p = err_from_is_err_and c.from_residual.result c.from_residual.ensures.1 in
-    rw (p.1, p.2) (work_stop _ _ c.in_err-cell.ensures.step)
-
-pub returns-in_err-reliability : goal.returns-in_err-reliability
-returns-in_err-reliability g c =
-    let p = err_from_is_err_and c.from_residual-in_err-reliability.result c.from_residual-in_err-reliability.ensures.1 in
-    rw (p.1, p.2) (work_step _ c.in_ok-cell.ensures.step (work_stop _ _ c.in_err-reliability.ensures.step))
-
-pub returns-in_err-input_order : goal.returns-in_err-input_order
-returns-in_err-input_order g c =
-    let p = err_from_is_err_and c.from_residual-in_err-input_order.result c.from_residual-in_err-input_order.ensures.1 in
-    rw (p.1, p.2) (work_step _ c.in_ok-cell.ensures.step
-    (work_step _ c.in_ok-reliability.ensures.step (work_stop _ _ c.in_err-input_order.ensures.step)))
+    rw (p.1, p.2) (c.in_err-basis.ensures.begins.stops _ refl
+    (λ basis. reading (grid_of basis.cell) c.args.grid.now (λ points _.
+    ended (explained basis.cell basis.tables points (value c.args.words.now Handset) (value c.args.words.now Watch)))) _)
 
 pub returns-in_err-points : goal.returns-in_err-points
 returns-in_err-points g c =
     let p = err_from_is_err_and c.from_residual-in_err-points.result c.from_residual-in_err-points.ensures.1 in
-    rw (p.1, p.2) (work_step _ c.in_ok-cell.ensures.step
-    (work_step _ c.in_ok-reliability.ensures.step
-    (work_step _ c.in_ok-input_order.ensures.step (work_stop _ _ c.in_err-points.ensures.step))))
+    rw (p.1, p.2) (c.in_ok-basis.ensures.begins.goes_on _ refl
+    (λ basis. reading (grid_of basis.cell) c.args.grid.now (λ points _.
+    ended (explained basis.cell basis.tables points (value c.args.words.now Handset) (value c.args.words.now Watch)))) _ _ _
+    (work_stop _ _ c.in_err-points.ensures.step))
 
 pub returns : goal.returns
 returns g c =
-    let tables = both c.in_ok-reliability.reliability c.in_ok-input_order.input_order in
-    work_step _ c.in_ok-cell.ensures.step
-    (work_step _ c.in_ok-reliability.ensures.step
-    (work_step _ c.in_ok-input_order.ensures.step
+    let basis = c.in_ok-basis.basis in
+    c.in_ok-basis.ensures.begins.goes_on _ refl
+    (λ basis. reading (grid_of basis.cell) c.args.grid.now (λ points _.
+    ended (explained basis.cell basis.tables points (value c.args.words.now Handset) (value c.args.words.now Watch)))) _ _ _
     (work_step _ c.in_ok-points.ensures.step
-    (work_job (explained c.in_ok-cell.cell tables c.in_ok-points.points (value c.args.words.now Handset)
-    (value c.args.words.now Watch)) c.explain_text.ensures))))
+    (work_job (explained basis.cell basis.tables c.in_ok-points.points (value c.args.words.now Handset)
+    (value c.args.words.now Watch)) c.explain_text.ensures))

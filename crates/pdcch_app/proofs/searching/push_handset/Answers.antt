@@ -17,15 +17,20 @@ pub returns : goal.returns
 returns c =
     let v = c.search.follows.holds-at-none in
     let p = ap (λ (s : SearcherValue). s.plan) c.in_ok-searcher.ensures in
-    appended_from c.args.cell.now c.args.tables.now c.args.grid.now c.args.handset c.in_ok-plan.plan c.plan.result.now
-    c.found.result.now
-    (get_or c.as_slice.result.now c.args.handset c.index-as_slice-handset.result).name c.args.text.now.items
-    c.append_report.new.out.items
-    (name_of c.args.cell.now c.as_slice.result.now c.args.handset c.index-as_slice-handset.result
-    (c.as_slice.ensures ∙ ap (λ (raw : RawCell). raw.handsets) c.raw.ensures.value) c.requires.handset)
+    appended_from c.args.cell.now c.args.tables.now c.args.grid.now c.args.handset c.in_ok-plan.plan
+    (record {
+      name = (get_or c.as_slice.result.now c.args.handset c.index-as_slice-handset.result).name;
+      plan = c.plan.result.now;
+      found = c.found.result.now;
+      name_is =
+          name_of c.args.cell.now c.as_slice.result.now c.args.handset c.index-as_slice-handset.result
+          (c.as_slice.ensures ∙ ap (λ (raw : RawCell). raw.handsets) c.raw.ensures.value) c.requires.handset;
+      plan_is = c.plan.ensures ∙ v.0 ∙ p;
+      found_is =
+          c.found.ensures.report ∙ v.1 ∙ c.search.ensures.report ∙ ap (report_of c.args.tables.now c.args.grid.now) p;
+    })
+    c.args.text.now.items c.append_report.new.out.items
     (plan_is c.args.cell.now c.args.handset
     (planned c.args.cell.now c.args.handset c.args.grid.now.frame c.args.grid.now.slot) c.in_ok-plan.plan
     c.in_ok-plan.ensures.read)
-    (c.plan.ensures ∙ v.0 ∙ p)
-    (c.found.ensures.report ∙ v.1 ∙ c.search.ensures.report ∙ ap (report_of c.args.tables.now c.args.grid.now) p)
     c.in_ok-append_report.ensures.whole

@@ -1,7 +1,5 @@
-use Rattle.std.proofs.Common.{◌≡◌, ◌+◌, ◌-◌, ℕ, take, subst, arith}
-use Rattle.std.specs.List.{range_with_len}
 use Rattle.std.proofs.lemmas.Result.{err_from_is_err_and}
-use Rattle.pdcch_app.proofs.Listeners.{AreReported, at_range, within_range, past_range, reported_more, stopped_ends, all_ended}
+use Rattle.pdcch_app.proofs.Listeners.{reported_more, stopped_ends, all_ended}
 use Rattle.pdcch_app.proofs.searching.report_of.Goals as goal
 
 pub returns-in_err-push_handset : goal.returns-in_err-push_handset
@@ -9,30 +7,18 @@ returns-in_err-push_handset c =
     let p = err_from_is_err_and c.from_residual-in_err-push_handset.result c.from_residual-in_err-push_handset.ensures.1 in
     let l = c.loop-handset in
     rw (p.1, p.2)
-    (stopped_ends c.args.cell.now c.args.tables.now c.args.grid.now
-    (range_with_len c.args.first (c.args.end - c.args.first)) (l.handset - c.args.first) l.handset
-    l.text.items c.push_handset.new.text.items c.in_err-push_handset.field-0.0
-    (within_range c.args.first c.args.end l.handset l.auto.handset c.loop-handset-test.true)
-    (at_range c.args.first c.args.end l.handset l.auto.handset c.loop-handset-test.true) l.invariant
-    c.in_err-push_handset.ensures)
+    (stopped_ends c.args.cell.now c.args.tables.now c.args.grid.now c.args.first c.args.end l.handset l.text.items
+    l.auto.handset c.loop-handset-test.true l.invariant c.push_handset.new.text.items
+    c.in_err-push_handset.field-0.0 c.in_err-push_handset.ensures)
 
 pub loop-handset-preserved : goal.loop-handset-preserved
 loop-handset-preserved c =
     let l = c.loop-handset in
-    let hs = range_with_len c.args.first (c.args.end - c.args.first) in
-    let P : ℕ → Type 0 = λ k. AreReported c.args.cell.now c.args.tables.now c.args.grid.now (take k hs)
-    c.push_handset.new.text.items in
-    let same : l.handset - c.args.first + 1 ≡ l.handset + 1 - c.args.first = omega (arith, l.auto.handset) in
-    subst P same
-    (reported_more c.args.cell.now c.args.tables.now c.args.grid.now hs (l.handset - c.args.first) l.handset l.text.items
-    c.push_handset.new.text.items
-    (within_range c.args.first c.args.end l.handset l.auto.handset c.loop-handset-test.true)
-    (at_range c.args.first c.args.end l.handset l.auto.handset c.loop-handset-test.true) l.invariant c.in_ok-push_handset.ensures)
+    reported_more c.args.cell.now c.args.tables.now c.args.grid.now c.args.first c.args.end l.handset l.text.items
+    l.auto.handset c.loop-handset-test.true l.invariant c.push_handset.new.text.items c.in_ok-push_handset.ensures
 
 pub returns : goal.returns
 returns c =
     let l = c.loop-handset in
-    all_ended c.args.cell.now c.args.tables.now c.args.grid.now (range_with_len c.args.first (c.args.end - c.args.first))
-    (l.handset - c.args.first) l.text.items
-    c.new.result.items c.new-2.result (past_range c.args.first c.args.end l.handset c.loop-handset-test.false) l.invariant
-    c.new-2.ensures c.new.ensures.items
+    all_ended c.args.cell.now c.args.tables.now c.args.grid.now c.args.first c.args.end l.handset l.text.items
+    c.new.result.items c.new-2.result c.loop-handset-test.false l.invariant c.new-2.ensures c.new.ensures.items

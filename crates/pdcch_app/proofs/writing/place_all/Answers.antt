@@ -1,7 +1,7 @@
 use Rattle.std.proofs.Common.{Vec, ℕ, Global, sym, subst, ap, ◌∙◌}
 use Rattle.grant_file.specs.Lists.{IsReadGrant}
 use Rattle.report_text.proofs.RefusedGrants.{named_from_fate}
-use Rattle.pdcch_app.proofs.Placings.{all_placed, placed_one, refused_one}
+use Rattle.pdcch_app.proofs.Placings.{Start, Now, all_placed, placed_one, refused_one}
 use Rattle.pdcch_app.proofs.writing.place_all.Goals.{in-Ok, in-Err+in_ok-append_refusal-in-Err}
 use Rattle.pdcch_app.proofs.writing.place_all.Goals as goal
 
@@ -15,24 +15,24 @@ append_refusal-requires c =
 pub loop-number-preserved : goal.loop-number-preserved
 loop-number-preserved c =
     let l = c.loop-number in
-    let grant = c.index-grants-number.result in
+    let start : Start = record { desk = c.args.desk.now; lines = c.args.lines.now.items } in
+    let now : Now = record { desk = l.desk; lines = l.lines.items; all = l.all_placed } in
+    let next : Now =
+    record { desk = c.place.new.self; lines = c.match-place.lines.items; all = c.match-place.all_placed } in
     elim c.match-place.branch [
       | in-Ok w ↦
-          placed_one c.args.tables.now c.args.grants.now c.args.desk.now l.desk c.place.new.self c.args.lines.now.items
-          l.lines.items c.match-place.lines.items l.all_placed
-          c.match-place.all_placed l.number grant w.in-Ok.field-0 c.loop-number-test.true c.index-grants-number.is
-          l.invariant w.in-Ok.ensures.fate c.place.ensures.step
-          (ap (λ (v : Vec ℕ Global). v.items) w.lines-is) w.all_placed-is
+          placed_one c.args.tables.now c.args.grants.now start now l.number c.index-grants-number.result
+          c.loop-number-test.true c.index-grants-number.is l.invariant next w.in-Ok.field-0 w.in-Ok.ensures.fate
+          c.place.ensures.step (ap (λ (v : Vec ℕ Global). v.items) w.lines-is) w.all_placed-is
       | in-Err+in_ok-append_refusal-in-Err w ↦
-          refused_one c.args.tables.now c.args.grants.now c.args.desk.now l.desk c.place.new.self c.args.lines.now.items
-          l.lines.items c.match-place.lines.items l.all_placed
-          c.match-place.all_placed l.number grant w.in-Err.refusal c.loop-number-test.true c.index-grants-number.is
-          l.invariant w.in-Err.ensures.fate c.place.ensures.step
+          refused_one c.args.tables.now c.args.grants.now start now l.number c.index-grants-number.result
+          c.loop-number-test.true c.index-grants-number.is l.invariant next w.in-Err.refusal w.in-Err.ensures.fate
+          c.place.ensures.step
           (ap (λ (v : Vec ℕ Global). v.items) w.lines-is ∙ w.in_ok-append_refusal-in-Err.ensures.whole) w.all_placed-is
     ]
 
 pub returns : goal.returns
 returns c =
-    all_placed c.args.tables.now c.args.grants.now c.args.desk.now c.loop-number.desk c.args.lines.now.items
-    c.loop-number.lines.items c.loop-number.all_placed
-    c.loop-number.number c.loop-number-test.false c.loop-number.invariant
+    let l = c.loop-number in
+    all_placed c.args.tables.now c.args.grants.now (record { desk = c.args.desk.now; lines = c.args.lines.now.items })
+    (record { desk = l.desk; lines = l.lines.items; all = l.all_placed }) l.number c.loop-number-test.false l.invariant

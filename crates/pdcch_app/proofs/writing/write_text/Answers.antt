@@ -34,9 +34,10 @@ returns c =
     ≡ Ok c.in-Ok.desk in
     let Q : List Grant → Type 0 = λ gs. ArePlaced c.args.tables.now gs c.in-Ok.desk c.place_all.new.desk
     c.new-lines.result.items c.place_all.new.lines.items c.in_ok-all_placed.all_placed in
-    write_done c.args.cell.now c.args.tables.now c.args.list.now c.in-Ok.desk c.place_all.new.desk c.new-lines.result.items
-    c.place_all.new.lines.items
-    c.in_ok-text.text.items c.in_ok-all_placed.all_placed c.status_by.result c.new.result
+    write_done c.args.cell.now c.args.tables.now c.args.list.now
+    (record { desk = c.in-Ok.desk; lines = c.new-lines.result.items })
+    (record { desk = c.place_all.new.desk; lines = c.place_all.new.lines.items; all = c.in_ok-all_placed.all_placed })
+    c.in_ok-text.text.items c.status_by.result c.new.result
     (subst P c.as_slice-grants.ensures c.in-Ok.ensures.opened)
     (subst Q c.as_slice-grants.ensures c.in_ok-all_placed.ensures) c.new-lines.ensures.items
     (c.in_ok-text.ensures ∙ ap grid_text c.grid.ensures.value) c.status_by.ensures c.new.ensures
