@@ -4,6 +4,7 @@ mod editing;
 pub mod edits;
 mod json;
 mod keys;
+mod large;
 mod order;
 
 use crate::words::words_of;
