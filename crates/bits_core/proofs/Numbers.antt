@@ -145,7 +145,8 @@ number_of_once bits others e f =
     ∙ ap (λ (n : ℕ). bits_of (length others) n) f
     ∙ bits_of-number_of others
 
-same_bit : (a b : ℕ) → a < 2 → b < 2 → eqb a 1 ≡ eqb b 1 → a ≡ b
+-- two bits of which one is 1 where the other is are the same
+pub same_bit : (a b : ℕ) → a < 2 → b < 2 → eqb a 1 ≡ eqb b 1 → a ≡ b
 same_bit zero zero h k e = refl
 same_bit zero (suc zero) h k e = cc
 same_bit (suc zero) zero h k e = cc

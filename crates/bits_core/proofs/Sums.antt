@@ -1,7 +1,11 @@
 -- Sums modulo 2 of bits.
 use Rattle.std.proofs.Common.{◌≡◌, ℕ, zero, suc, ◌+◌, ◌%◌, ◌<◌, Bool, true, false, eqb, ◌&&◌, refl, ap, sym, ◌∙◌, arith}
 use Rattle.std.proofs.Common.{add-zero, add-suc}
+use Rattle.std.specs.Int.Bits.{bit_xor}
+use Rattle.std.specs.Int.{bit_at}
+use Rattle.std.proofs.lemmas.Nat.Bits.{bit_at_xor, bit_at-lt}
 use Rattle.bits_core.specs.Bits.{plus, sum_below}
+use Rattle.bits_core.specs.Ones.{has_one}
 
 -- a bit added twice is nothing
 pub plus_cancel : (a b : Bool) → plus (plus a b) b ≡ a
@@ -62,6 +66,10 @@ bit_sum (suc zero) (suc zero) l k = refl
 bit_sum zero (suc (suc b)) l k = absurd (omega arith)
 bit_sum (suc zero) (suc (suc b)) l k = absurd (omega arith)
 bit_sum (suc (suc a)) b l k = absurd (omega arith)
+
+-- a bit of the sum of two words modulo 2
+pub has_one-xor : (a b i : ℕ) → has_one (bit_xor a b) i ≡ plus (has_one a i) (has_one b i)
+has_one-xor a b i = ap (λ (n : ℕ). eqb n 1) (bit_at_xor a b i) ∙ bit_sum (bit_at a i) (bit_at b i) (bit_at-lt a i) (bit_at-lt b i)
 
 -- the same terms
 pub sum_below_same : (n : ℕ) (f g : ℕ → Bool) → ((i : ℕ) → i < n → f i ≡ g i) → sum_below n f ≡ sum_below n g

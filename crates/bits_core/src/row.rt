@@ -1,9 +1,11 @@
 //! A row of bits of limited length, packed in words.
-ghost use Rattle.std.specs.Prelude.{◌≡◌, ◌+◌, ◌*◌, ◌^◌, ◌<◌, ◌≤◌, ◌↔◌, Bool, IsTrue, List, [], ◌∷◌, ◌++◌, false};
+ghost use Rattle.std.specs.Prelude.{ℕ, ◌≡◌, ◌+◌, ◌*◌, ◌^◌, ◌<◌, ◌≤◌, ◌↔◌, Bool, IsTrue, List, [], ◌∷◌, ◌++◌, false};
 ghost use Rattle.std.specs.Prelude.{length, slice_index_or, slice_range, slice_set};
-ghost use Rattle.bits_core.specs.Bits.{bits_of, number_of};
+ghost use Rattle.bits_core.specs.Bits.{bit_of, bits_of, number_of};
+ghost use Rattle.bits_core.specs.Ones.{has_one};
+ghost use Rattle.bits_core.specs.Row.{row_bits};
 
-use crate::words::{bit, put};
+use crate::words::{bit, low_bits, put};
 use std::alloc::AllocError;
 use std::marker::Model;
 
@@ -114,16 +116,39 @@ impl<const W: usize> BitRow<W> {
         number
     }
 
+    /// The word at place `at` of the packed form: bit `i` of the row stands in word `i / 64` at place `i % 64`, low place first,
+    /// and zeros stand past the row's length.
+    pub fn word(&self, at: usize) -> u64
+        requires { at < W }
+        ensures { (i : ℕ) → i < 64 → has_one result i ≡ bit_of self.now (64 * at + i) }
+    {
+        let whole = self.len / 64;
+        if at < whole {
+            self.words[at]
+        } else if at == whole {
+            low_bits(self.words[at], self.len % 64)
+        } else {
+            0
+        }
+    }
+
+    /// The row of the first `len` bits of `words`; what stands past them is dropped.
+    pub fn of_words(words: [u64; W], len: usize) -> BitRow<W>
+        requires { len ≤ 64 * W }
+        ensures { result ≡ row_bits words.entry len }
+    {
+        BitRow { words, len }
+    }
+
     /// Whether both rows have the same bits.
     pub fn slice_eq(&self, other: &BitRow<W>) -> bool
         ensures { IsTrue result ↔ (self.now ≡ other.now) }
     {
-        let len = self.len();
-        if len != other.len() {
+        if self.len() != other.len() {
             return false;
         }
-        for at in 0..len {
-            if self.get(at) != other.get(at) {
+        for at in 0..W {
+            if self.word(at) != other.word(at) {
                 return false;
             }
         }

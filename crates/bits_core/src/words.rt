@@ -1,5 +1,5 @@
 //! Single bits of packed words.
-ghost use Rattle.std.specs.Prelude.{◌≡◌, ◌*◌, ◌<◌, length};
+ghost use Rattle.std.specs.Prelude.{◌≡◌, ◌*◌, ◌%◌, ◌^◌, ◌<◌, length};
 ghost use Rattle.bits_core.specs.Row.{word_bit};
 ghost use Rattle.bits_core.specs.RowWriting.{IsWritten};
 
@@ -23,4 +23,12 @@ pub(crate) fn put(words: &mut [u64], at: usize, bit: bool)
     } else {
         words[word] &= !mask;
     }
+}
+
+/// The low `count` bits of `word`, with zeros above them.
+pub(crate) fn low_bits(word: u64, count: usize) -> u64
+    requires { count < 64 }
+    ensures { result ≡ word % 2 ^ count }
+{
+    word & ((1 << count) - 1)
 }
