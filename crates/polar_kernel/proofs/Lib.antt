@@ -1,6 +1,9 @@
 pub mod Halves
 pub mod Stages
+mod StagesInWords
 mod StagesOfLists
+mod StagesOfWords
+mod WordBits
 pub mod WordLaws
 pub mod Words
 pub mod WordsWithin

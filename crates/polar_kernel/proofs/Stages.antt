@@ -1,19 +1,16 @@
 -- After t stages each run of 2 ^ t bits is its word.
 use Rattle.std.proofs.Common.{ℕ, ◌≡◌, ◌+◌, ◌*◌, ◌^◌, ◌<◌, suc, Bool, refl, ap, subst, sym, ◌∙◌, arith}
 use Rattle.std.specs.Prelude.{bit_and}
+use Rattle.std.specs.Int.Bits.{and_zero_r}
 use Rattle.std.proofs.Math.Pow.{pow-lt}
 use Rattle.std.proofs.lemmas.Bool.{eq-eqb, ne_eqb}
-use Rattle.std.proofs.lemmas.Nat.{and_block, and_le_r, and_mask, or_disjoint, or_lt}
+use Rattle.std.proofs.lemmas.Nat.{and_block, and_mask, or_disjoint, or_lt}
 use Rattle.bits_core.specs.Bits.{plus, sum_below}
 use Rattle.bits_core.specs.Ones.{contains_ones}
 use Rattle.polar_kernel.specs.MatrixWord.{word_at}
-use Rattle.polar_kernel.specs.Stages.{HasPartners, staged}
+use Rattle.polar_kernel.specs.Stages.{AfterStages, HasPartners, staged}
 use Rattle.polar_kernel.proofs.Halves.{by_halves, doubled, word_at_high, word_at_low}
 use Rattle.polar_kernel.proofs.Words.{word_at_same}
-
--- after t stages each run of 2 ^ t bits is its word
-abbrev pub AfterStages : ℕ → ℕ → (ℕ → Bool) → (ℕ → Bool) → Type 0
-AfterStages n t u w = (q r : ℕ) → r < 2 ^ t → q * 2 ^ t + r < n → w (q * 2 ^ t + r) ≡ word_at (2 ^ t) (λ i. u (q * 2 ^ t + i)) r
 
 -- of one bit the word is that bit
 word_of_one : (u : ℕ → Bool) → word_at 1 u 0 ≡ u 0
@@ -37,13 +34,10 @@ even_digit q = and_mask (2 * q) 1 ∙ omega arith
 odd_digit : (q : ℕ) → bit_and (2 * q + 1) 1 ≡ 1
 odd_digit q = and_mask (2 * q + 1) 1 ∙ omega arith
 
-and_none : (r : ℕ) → bit_and r 0 ≡ 0
-and_none r = let le = and_le_r r 0 in omega arith
-
 digit_at : (t a r : ℕ) → r < 2 ^ t → 0 < 2 ^ t → bit_and (a * 2 ^ t + r) (2 ^ t) ≡ bit_and a 1 * 2 ^ t
 digit_at t a r l p =
     let one : 2 ^ t ≡ 1 * 2 ^ t + 0 = omega arith in
-    ap (bit_and (a * 2 ^ t + r)) one ∙ and_block t a 1 r 0 l p ∙ ap (λ (x : ℕ). bit_and a 1 * 2 ^ t + x) (and_none r)
+    ap (bit_and (a * 2 ^ t + r)) one ∙ and_block t a 1 r 0 l p ∙ ap (λ (x : ℕ). bit_and a 1 * 2 ^ t + x) (and_zero_r r)
     ∙ omega arith
 
 staged_even : (t q r : ℕ) (w : ℕ → Bool) → r < 2 ^ t → 0 < 2 ^ t →

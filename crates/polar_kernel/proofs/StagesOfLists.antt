@@ -9,8 +9,8 @@ use Rattle.bits_core.specs.Bits.{bit_of}
 use Rattle.bits_core.specs.CodeLengths.{is_code_length}
 use Rattle.bits_core.proofs.CodeLengths.{IsPower, power_of}
 use Rattle.polar_kernel.specs.MatrixWord.{matrix_word, word_at}
-use Rattle.polar_kernel.specs.Stages.{HasPartners, staged}
-use Rattle.polar_kernel.proofs.Stages.{AfterStages, after_none, after_more, after_all, partners_at}
+use Rattle.polar_kernel.specs.Stages.{AfterStages, HasPartners, staged}
+use Rattle.polar_kernel.proofs.Stages.{after_none, after_more, after_all, partners_at}
 
 -- w is what the stages below `span` leave of u
 pub record IsPartly (span : ℕ) (u w : List Bool) : Type 0 where
@@ -46,7 +46,7 @@ none_done u h = record {
   each = after_none (length u) (bit_of u);
 }
 
-partners_by : (n span m t : ℕ) → n ≡ 2 ^ m → span ≡ 2 ^ t → span < n → HasPartners n span
+pub partners_by : (n span m t : ℕ) → n ≡ 2 ^ m → span ≡ 2 ^ t → span < n → HasPartners n span
 partners_by n span m t e f l =
     let below : 2 ^ t < 2 ^ m = omega arith in
     subst (λ (x : ℕ). HasPartners x span) (sym e)
@@ -59,7 +59,7 @@ partners_of span u w h p l =
     let q = power_of (length u) h in
     partners_by (length w) span q.exponent p.stage (p.length_is ∙ q.power) p.span_is l
 
-within_more : (n span m t : ℕ) → n ≡ 2 ^ m → span ≡ 2 ^ t → span < n → span * 2 ≤ n
+pub within_more : (n span m t : ℕ) → n ≡ 2 ^ m → span ≡ 2 ^ t → span < n → span * 2 ≤ n
 within_more n span m t e f l =
     let below : 2 ^ t < 2 ^ m = omega arith in
     let le = doubled_within t m below in

@@ -1,4 +1,5 @@
 pub mod MatrixWord
+pub mod PackedStages
 pub mod Stages
 pub mod Upward
 pub mod WordLaws

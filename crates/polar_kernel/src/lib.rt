@@ -3,12 +3,15 @@
 #![tactic(auto)]
 
 pub mod laws;
+mod packed;
 
 ghost use Rattle.bits_core.specs.Bits.{bit_of};
 ghost use Rattle.bits_core.specs.CodeLengths.{is_code_length};
 ghost use Rattle.polar_kernel.specs.MatrixWord.{matrix_word};
 ghost use Rattle.polar_kernel.specs.Stages.{HasPartners, staged};
 ghost use Rattle.std.specs.Prelude.{ℕ, ◌≡◌, ◌<◌, IsTrue, length};
+
+pub use packed::transform_words;
 
 /// Replaces the input bits of a polar code by its word: bit `j` becomes the sum modulo 2 of the bits at every `i` whose
 /// binary ones contain those of `j`. `N` is 32, 64, 128, 256 or 512.
