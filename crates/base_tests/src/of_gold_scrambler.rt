@@ -1,5 +1,5 @@
 //! Bits of the sequence that are known.
-ghost use Rattle.std.specs.Prelude.{◌≡◌, ◌+◌, ◌^◌, ◌≤◌, length};
+ghost use Rattle.std.specs.Prelude.{◌≡◌, ◌+◌, ◌^◌, ◌<◌, ◌≤◌, length};
 
 use bits_core::Coded;
 use gold_scrambler::Gold;
@@ -92,5 +92,50 @@ fn known_sequences_in_rows(rt: HostRuntime) {
         gold.skip(1000 - 64);
         gold.fill(&mut row, 32);
         assert!(rt; are_spelled(&row, later), "the later bits of {c_init}");
+    }
+}
+
+/// Counts beside the ends of a turn of 28 bits and of a word, and the longest.
+const COUNTS: [usize; 10] = [0, 1, 27, 28, 29, 63, 64, 65, 1650, 1728];
+
+/// Whether the next bits are those of a row.
+fn continues_with_row(gold: &mut Gold, row: &Coded) -> bool
+    requires { gold.old.at ≤ 2 ^ 20 }
+    ensures { gold.new.at ≤ gold.old.at + 1728 }
+{
+    let mut same = true;
+    for at in 0..row.len() {
+        let bit = gold.next_bit();
+        same = same && bit == row.get(at);
+    }
+    same
+}
+
+/// Whether the first `count` bits of the sequence of `c_init`, and those that come after as many that were filled or passed, are
+/// its bits one by one.
+fn is_bit_by_bit(c_init: u32, count: usize) -> bool
+    requires start { c_init < 2 ^ 31 }
+    requires count { count ≤ 1728 }
+{
+    let mut row = Coded::new();
+    let mut after = Coded::new();
+    let mut by_bits = Gold::new(c_init);
+    let mut by_rows = Gold::new(c_init);
+    by_rows.fill(&mut row, count);
+    let first = continues_with_row(&mut by_bits, &row);
+    by_rows.fill(&mut row, 100);
+    let mut skipped = Gold::new(c_init);
+    skipped.skip(count as u32);
+    skipped.fill(&mut after, 100);
+    first && continues_with_row(&mut by_bits, &row) && row == after
+}
+
+#[test]
+fn many_bits_at_once(rt: HostRuntime) {
+    for (c_init, _, _) in SEQUENCES {
+        for count in COUNTS {
+            assert!(rt; c_init < 1 << 31 && count <= 1728);
+            assert!(rt; is_bit_by_bit(c_init, count), "{count} bits of {c_init}");
+        }
     }
 }

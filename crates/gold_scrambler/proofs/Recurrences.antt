@@ -8,28 +8,32 @@ use Rattle.gold_scrambler.proofs.Parities.{odd_add}
 use Rattle.gold_scrambler.proofs.Registers.{IsShifted, bit_at_state, low_after, shifted_small}
 
 -- what comes in at the top of the first register after n steps
-abbrev top1 : ℕ → ℕ
+abbrev pub top1 : ℕ → ℕ
 top1 n = state1 n / 8 + state1 n
 
 -- what comes in at the top of the second register after n steps
-abbrev top2 : ℕ → ℕ → ℕ
+abbrev pub top2 : ℕ → ℕ → ℕ
 top2 c n = state2 c n / 8 + state2 c n / 4 + state2 c n / 2 + state2 c n
 
-small1 : (n : ℕ) → state1 n < 2 ^ 31
+-- the first register stays below 2 ^ 31
+pub small1 : (n : ℕ) → state1 n < 2 ^ 31
 unfolding state1
 small1 zero = omega arith
 small1 (suc n) = shifted_small (state1 n) (top1 n) (small1 n)
 
-small2 : (c n : ℕ) → c < 2 ^ 31 → state2 c n < 2 ^ 31
+-- the second register stays below 2 ^ 31
+pub small2 : (c n : ℕ) → c < 2 ^ 31 → state2 c n < 2 ^ 31
 unfolding state2
 small2 c zero h = h
 small2 c (suc n) h = shifted_small (state2 c n) (top2 c n) (small2 c n h)
 
-shifted1 : IsShifted state1 top1
+-- the first register is shifted once a step
+pub shifted1 : IsShifted state1 top1
 unfolding state1
 shifted1 = record { shifts = λ n. refl }
 
-shifted2 : (c : ℕ) → IsShifted (state2 c) (top2 c)
+-- the second register is shifted once a step
+pub shifted2 : (c : ℕ) → IsShifted (state2 c) (top2 c)
 unfolding state2
 shifted2 c = record { shifts = λ n. refl }
 

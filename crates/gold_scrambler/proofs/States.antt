@@ -5,11 +5,6 @@ use Rattle.gold_scrambler.specs.Gold.{next1, next2, state1, state2, x1, x2, gold
 use Rattle.gold_scrambler.specs.Standing.{AreStates, IsStanding}
 use Rattle.gold_scrambler.proofs.Parities.{differ_odd}
 
--- before the first step
-pub no_step : (c : ℕ) → c < 2 ^ 31 → AreStates c 0 1 c
-unfolding state1 state2
-no_step c h = record { first_is = refl; second_is = refl; first_small = omega arith; second_small = h }
-
 -- the first register one step on
 pub state1_more : (n : ℕ) → state1 (n + 1) ≡ next1 (state1 n)
 unfolding state1
@@ -46,5 +41,6 @@ standing_more c n first second first' second' h w e f s t =
     record {
       states =
           subst (λ m. AreStates c m first' second') later (step_more c (n + 1600) first second first' second' h.states e f s t);
+      start = h.start;
       within = omega arith;
     }

@@ -12,4 +12,5 @@ pub record AreStates (c n first second : ℕ) : Type 0 where
 -- the registers stand before bit `place` of the sequence with the start value c
 pub record IsStanding (c place first second : ℕ) : Type 0 where
   pub states : AreStates c (place + 1600) first second
+  pub start : c < 2 ^ 31
   pub within : place ≤ 2 ^ 30

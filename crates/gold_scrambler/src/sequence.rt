@@ -1,12 +1,12 @@
-//! The sequence, bit by bit.
+//! The sequence of one start value: its next bit, and many at once.
 ghost use Rattle.std.specs.Prelude.{◌≡◌, ◌+◌, ◌^◌, ◌<◌, ◌≤◌};
 ghost use Rattle.gold_scrambler.specs.Gold.{next1, next2, gold, gold_bits};
+ghost use Rattle.gold_scrambler.specs.Stretches.{HasBits};
 
+use crate::jump::{first_after_offset, second_after_offset};
+use crate::register::{TURN, first_window, register_after, second_window};
 use bits_core::Coded;
 use std::marker::Model;
-
-/// How many steps the registers take before the first bit of the sequence.
-const OFFSET: u32 = 1600;
 
 /// The top bit of a register of 31 bits.
 const TOP: u32 = 1 << 30;
@@ -41,15 +41,9 @@ impl Gold {
         ensures c_init { result.c_init ≡ c_init }
         ensures at { result.at ≡ 0 }
     {
-        let mut first = 1;
-        let mut second = c_init;
-        for _step in 0..OFFSET {
-            first = next_first(first);
-            second = next_second(second);
-        }
         Gold {
-            first,
-            second,
+            first: first_after_offset(),
+            second: second_after_offset(c_init),
             c_init,
             at: 0,
         }
@@ -75,9 +69,10 @@ impl Gold {
         ensures c_init { self.new.c_init ≡ self.old.c_init }
         ensures at { self.new.at ≡ self.old.at + count }
     {
-        for _passed in 0..count {
-            self.next_bit();
+        for _turn in 0..count / TURN {
+            self.next_bits(TURN);
         }
+        self.next_bits(count % TURN);
     }
 
     /// Replaces `out` by the next `count` bits.
@@ -88,10 +83,42 @@ impl Gold {
         ensures c_init { self.new.c_init ≡ self.old.c_init }
         ensures at { self.new.at ≡ self.old.at + count }
     {
-        *out = Coded::new();
-        for _taken in 0..count {
-            out.push(self.next_bit());
+        let mut words = [0; 27];
+        for index in 0..count.div_ceil(64) {
+            words[index] = self.next_word((count - 64 * index).min(64) as u32);
         }
+        *out = Coded::of_words(words, count);
+    }
+
+    /// The next `count` bits of the sequence, at most 64, low place first.
+    fn next_word(&mut self, count: u32) -> u64
+        requires word { count ≤ 64 }
+        requires within { self.old.at + count ≤ 2 ^ 30 }
+        ensures bits { HasBits (gold self.old.c_init) self.old.at count result }
+        ensures c_init { self.new.c_init ≡ self.old.c_init }
+        ensures at { self.new.at ≡ self.old.at + count }
+    {
+        let low = count.min(TURN);
+        let middle = (count - low).min(TURN);
+        let high = count - low - middle;
+        self.next_bits(low) | self.next_bits(middle) << low | self.next_bits(high) << (low + middle)
+    }
+
+    /// The next `count` bits of the sequence, at most 28, low place first. Zeros stand past them.
+    fn next_bits(&mut self, count: u32) -> u64
+        requires turn { count ≤ 28 }
+        requires within { self.old.at + count ≤ 2 ^ 30 }
+        ensures bits { HasBits (gold self.old.c_init) self.old.at count result }
+        ensures small { result < 2 ^ count }
+        ensures c_init { self.new.c_init ≡ self.old.c_init }
+        ensures at { self.new.at ≡ self.old.at + count }
+    {
+        let first = first_window(self.first);
+        let second = second_window(self.second);
+        self.first = register_after(first, count);
+        self.second = register_after(second, count);
+        self.at += count;
+        (first ^ second) & ((1 << count) - 1)
     }
 }
 
