@@ -1,3 +1,6 @@
+mod Bytes
+mod Copies
+mod Entries
 pub mod Masks
 mod Numbers
 mod Pins

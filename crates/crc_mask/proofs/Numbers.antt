@@ -1,14 +1,14 @@
 -- The register as a number of 24 bits.
 use Rattle.std.proofs.Common.{◌≡◌, ℕ, ◌+◌, ◌-◌, ◌*◌, ◌/◌, ◌%◌, ◌^◌, ◌<◌, ◌≤◌, min, Bool, true, false, not, ◌&&◌, eqb}
-use Rattle.std.proofs.Common.{List, length, take, replicate, ◌++◌, bit_and, bit_xor, refl, ap, sym, ◌∙◌, inl, inr, arith}
+use Rattle.std.proofs.Common.{List, length, replicate, ◌++◌, bit_and, bit_xor, refl, ap, sym, ◌∙◌, inl, inr, arith, pow_pos}
 use Rattle.std.specs.Int.{bit_at}
 use Rattle.std.specs.Bool.{beq}
 use Rattle.std.proofs.lemmas.Bool.{cases_lt}
-use Rattle.std.proofs.lemmas.List.{take_all, get_or_past, get_or-replicate, get_or_append_left, get_or-append_right}
+use Rattle.std.proofs.lemmas.List.{get_or_past, get_or-replicate, get_or_append_left, get_or-append_right}
 use Rattle.std.proofs.lemmas.List.{length-replicate}
 use Rattle.std.proofs.lemmas.List.FromFn.{fill_by_all}
 use Rattle.std.proofs.lemmas.Nat.{and_le_r}
-use Rattle.std.proofs.lemmas.Nat.Bits.{bit_at-lt, bit_at_xor, bit_at_and, bit_at_ones, bit_at_above, bit_at_cat_low}
+use Rattle.std.proofs.lemmas.Nat.Bits.{bit_at-zero, bit_at-lt, bit_at_xor, bit_at_and, bit_at_ones, bit_at_above, bit_at_cat_low}
 use Rattle.std.proofs.lemmas.Nat.Bits.{bit_at_cat_high}
 use Rattle.bits_core.specs.Bits.{plus, bit_of, bits_of}
 use Rattle.bits_core.proofs.Numbers.{length-bits_of, get_or-bits_of}
@@ -26,45 +26,69 @@ bit_of_xor width a b j h =
     ∙ ap (λ (x : Bool). plus x (eqb (bit_at b (width - 1 - j)) 1)) (sym (get_or-bits_of width a j h))
     ∙ ap (λ (x : Bool). plus (bit_of (bits_of width a) j) x) (sym (get_or-bits_of width b j h))
 
+-- zero has no ones
+pub bit_of_zero : (width j : ℕ) → bit_of (bits_of width 0) j ≡ false
+bit_of_zero width j =
+    elim (cases_lt j width) as (λ _. bit_of (bits_of width 0) j ≡ false) [
+      | inl l ↦ get_or-bits_of width 0 j l ∙ ap (λ (b : ℕ). eqb b 1) (bit_at-zero (width - 1 - j))
+      | inr l ↦ get_or_past (bits_of width 0) j false (omega (arith, length-bits_of width 0))
+    ]
+
 min-one : (n : ℕ) → n < 2 → min n 1 ≡ n
 min-one n h = omega arith
 
--- a register moved up by one: the bit that comes in is 0
-abbrev pub moved : ℕ → ℕ
-moved r = bit_and (r * 2 ^ 1 % 2 ^ 32) (2 ^ 24 - 1)
+-- a register moved up by so many places: the bits that come in are 0
+abbrev pub moved_by : ℕ → ℕ → ℕ
+moved_by count r = bit_and (r * 2 ^ count % 2 ^ 32) (2 ^ 24 - 1)
 
 -- a register that was moved has 24 bits
-pub moved_lt : (r : ℕ) → moved r < 2 ^ 24
-moved_lt r = omega (arith, and_le_r (r * 2 ^ 1 % 2 ^ 32) (2 ^ 24 - 1))
+pub moved_by_lt : (count r : ℕ) → moved_by count r < 2 ^ 24
+moved_by_lt count r = omega (arith, and_le_r (r * 2 ^ count % 2 ^ 32) (2 ^ 24 - 1))
 
-bit_at-moved : (r b : ℕ) → r < 2 ^ 24 → b < 24 → bit_at (moved r) b ≡ bit_at (r * 2 ^ 1 + 0) b
-bit_at-moved r b small h =
-    let small_bit : bit_at (r * 2 ^ 1 + 0) b < 2 = bit_at-lt (r * 2 ^ 1 + 0) b in
-    let whole : r * 2 ^ 1 % 2 ^ 32 ≡ r * 2 ^ 1 + 0 = omega arith in
-    bit_at_and (r * 2 ^ 1 % 2 ^ 32) (2 ^ 24 - 1) b
+bit_at-moved : (count r b : ℕ) → r * 2 ^ count < 2 ^ 32 → b < 24 → bit_at (moved_by count r) b ≡ bit_at (r * 2 ^ count + 0) b
+bit_at-moved count r b small h =
+    let small_bit : bit_at (r * 2 ^ count + 0) b < 2 = bit_at-lt (r * 2 ^ count + 0) b in
+    let whole : r * 2 ^ count % 2 ^ 32 ≡ r * 2 ^ count + 0 = omega arith in
+    bit_at_and (r * 2 ^ count % 2 ^ 32) (2 ^ 24 - 1) b
     ∙ ap (λ (n : ℕ). min (bit_at n b) (bit_at (2 ^ 24 - 1) b)) whole
-    ∙ ap (λ (n : ℕ). min (bit_at (r * 2 ^ 1 + 0) b) n) (bit_at_ones 24 b h)
-    ∙ min-one (bit_at (r * 2 ^ 1 + 0) b) small_bit
+    ∙ ap (λ (n : ℕ). min (bit_at (r * 2 ^ count + 0) b) n) (bit_at_ones 24 b h)
+    ∙ min-one (bit_at (r * 2 ^ count + 0) b) small_bit
+
+-- a bit of a register that was moved
+pub bit_of-moved_by : (count r j : ℕ) → r * 2 ^ count < 2 ^ 32 → j < 24
+    → bit_of (bits_of 24 (moved_by count r)) j ≡ bit_of (bits_of 24 r) (j + count)
+bit_of-moved_by count r j small h =
+    elim (cases_lt (j + count) 24) as (λ _. bit_of (bits_of 24 (moved_by count r)) j ≡ bit_of (bits_of 24 r) (j + count)) [
+      | inl l ↦
+          let above : count ≤ 24 - 1 - j = omega arith in
+          let within : 24 - 1 - j < 24 = omega arith in
+          let place : 24 - 1 - j - count ≡ 24 - 1 - (j + count) = omega arith in
+          get_or-bits_of 24 (moved_by count r) j h
+          ∙ ap (λ (n : ℕ). eqb n 1)
+          (bit_at-moved count r (24 - 1 - j) small within
+          ∙ bit_at_cat_high r count 0 (24 - 1 - j) (pow_pos count) above
+          ∙ ap (bit_at r) place)
+          ∙ sym (get_or-bits_of 24 r (j + count) l)
+      | inr l ↦
+          let low : 24 - 1 - j < count = omega arith in
+          get_or-bits_of 24 (moved_by count r) j h
+          ∙ ap (λ (n : ℕ). eqb n 1)
+          (bit_at-moved count r (24 - 1 - j) small (omega arith)
+          ∙ bit_at_cat_low r count 0 (24 - 1 - j) low
+          ∙ bit_at-zero (24 - 1 - j))
+          ∙ sym (get_or_past (bits_of 24 r) (j + count) false (omega (arith, length-bits_of 24 r)))
+    ]
+
+-- a register moved up by one
+abbrev pub moved : ℕ → ℕ
+moved = moved_by 1
+
+-- a register that was moved by one has 24 bits
+pub moved_lt : (r : ℕ) → moved r < 2 ^ 24
+moved_lt r = moved_by_lt 1 r
 
 bit_of-moved : (r j : ℕ) → r < 2 ^ 24 → j < 24 → bit_of (bits_of 24 (moved r)) j ≡ bit_of (bits_of 24 r) (j + 1)
-bit_of-moved r j small h =
-    elim (cases_lt (j + 1) 24) as (λ _. bit_of (bits_of 24 (moved r)) j ≡ bit_of (bits_of 24 r) (j + 1)) [
-      | inl l ↦
-          let zero_below : 0 < 2 ^ 1 = omega arith in
-          let above : 1 ≤ 24 - 1 - j = omega arith in
-          let within : 24 - 1 - j < 24 = omega arith in
-          let place : 24 - 1 - j - 1 ≡ 24 - 1 - (j + 1) = omega arith in
-          get_or-bits_of 24 (moved r) j h
-          ∙ ap (λ (n : ℕ). eqb n 1)
-          (bit_at-moved r (24 - 1 - j) small within ∙ bit_at_cat_high r 1 0 (24 - 1 - j) zero_below above ∙ ap (bit_at r) place)
-          ∙ sym (get_or-bits_of 24 r (j + 1) l)
-      | inr l ↦
-          let low : 24 - 1 - j ≡ 0 = omega arith in
-          get_or-bits_of 24 (moved r) j h
-          ∙ ap (λ (b : ℕ). eqb (bit_at (moved r) b) 1) low
-          ∙ ap (λ (n : ℕ). eqb n 1) (bit_at-moved r 0 small (omega arith) ∙ bit_at_cat_low r 1 0 0 (omega arith))
-          ∙ sym (get_or_past (bits_of 24 r) (j + 1) false (omega (arith, length-bits_of 24 r)))
-    ]
+bit_of-moved r j small h = bit_of-moved_by 1 r j (omega arith) h
 
 -- the bit that leaves
 bit_of_left : (r : ℕ) → r < 2 ^ 24 → bit_of (bits_of 24 r) 0 ≡ eqb (r / 2 ^ 23) 1
@@ -142,10 +166,10 @@ masked_numbers payload number rnti e small =
     ∙ ap (λ (b : Bool). plus (bit_of (parity payload) j) b) (sym (bit_of-mask rnti j small h))))
 
 -- a block is its payload, then the number of the masked parity
-pub attached : (payload block : List Bool) (at number rnti other : ℕ) → length payload ≤ at → block ≡ take at payload
+pub attached : (payload block : List Bool) (number rnti other : ℕ) → block ≡ payload
     → bits_of 24 number ≡ parity payload → other ≡ rnti → rnti < 2 ^ 16
     → block ++ bits_of 24 (bit_xor number other) ≡ masked payload rnti
-attached payload block at number rnti other done is e same small =
-    ap (λ (bits : List Bool). bits ++ bits_of 24 (bit_xor number other)) (is ∙ take_all at payload done)
+attached payload block number rnti other is e same small =
+    ap (λ (bits : List Bool). bits ++ bits_of 24 (bit_xor number other)) is
     ∙ ap (λ (n : ℕ). payload ++ bits_of 24 (bit_xor number n)) same
     ∙ masked_numbers payload number rnti e small

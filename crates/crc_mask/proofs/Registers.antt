@@ -20,13 +20,15 @@ so_far message m j = sum_below m (λ i. bit_of message i && bit_of (remainder (m
 abbrev pub IsRegister : List Bool → ℕ → List Bool → Type 0
 IsRegister message m r = (j : ℕ) → j < 24 → bit_of r j ≡ so_far message m j
 
-so_far_past : (message : List Bool) (m j : ℕ) → 24 ≤ j → so_far message m j ≡ false
+-- no bits stand past the 24
+pub so_far_past : (message : List Bool) (m j : ℕ) → 24 ≤ j → so_far message m j ≡ false
 unfolding so_far
 so_far_past message m j h =
     sum_below-zero m (λ i. bit_of message i && bit_of (remainder (m + 23 - i)) j)
     (λ i l. and_right (bit_of message i) (bit_of (remainder (m + 23 - i)) j) (remainder_past (m + 23 - i) j h))
 
-advanced-at : (r : List Bool) (bit : Bool) (j : ℕ) → j < 24
+-- a bit of the register once one more has gone in
+pub advanced-at : (r : List Bool) (bit : Bool) (j : ℕ) → j < 24
     → bit_of (advanced r bit) j ≡ plus (bit_of r (j + 1)) (plus (bit_of r 0) bit && bit_of generator j)
 unfolding advanced
 advanced-at r bit j h =
@@ -56,7 +58,7 @@ spread true a b g = refl
 spread false a b g = refl
 
 -- one more bit of the message goes into the sum
-so_far-suc : (message : List Bool) (m j : ℕ) → j < 24
+pub so_far-suc : (message : List Bool) (m j : ℕ) → j < 24
     → so_far message (suc m) j
     ≡ plus (plus (so_far message m (j + 1)) (so_far message m 0 && bit_of generator j))
     (bit_of message m && bit_of generator j)

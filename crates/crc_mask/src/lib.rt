@@ -3,5 +3,6 @@
 
 mod mask;
 mod register;
+mod table;
 
 pub use mask::{attach, strip};

@@ -10,10 +10,7 @@ pub fn attach(payload: &Payload, rnti: u16) -> Block
     ensures block { result ≡ masked payload.now rnti }
     ensures length { length result ≡ length payload.now + 24 }
 {
-    let mut block = Block::new();
-    for at in 0..payload.len() {
-        block.push(payload.get(at));
-    }
+    let mut block = Block::of_words([payload.word(0), payload.word(1), 0], payload.len());
     block.append_number(24, parity_of(payload) ^ u32::from(rnti));
     block
 }
@@ -25,10 +22,7 @@ pub fn strip(bits: &Block, rnti: u16) -> Option<Payload>
     ensures { (p : List Bool) → (result ≡ Some p) ↔ (masked p rnti ≡ bits.now) }
 {
     let size = bits.len() - 24;
-    let mut payload = Payload::new();
-    for at in 0..size {
-        payload.push(bits.get(at));
-    }
+    let payload = Payload::of_words([bits.word(0), bits.word(1)], size);
     if attach(&payload, rnti).slice_eq(bits) {
         Some(payload)
     } else {

@@ -1,7 +1,40 @@
 //! Masked blocks whose bits are known.
+ghost use Rattle.std.specs.Prelude.{◌≤◌, length};
+
 use crate::bits::row_of;
 use bits_core::Payload;
 use crc_mask::{attach, strip};
+
+/// Bits in no order.
+const DIGITS: &[u8; 128] = b"1010001000011000100001000011001000100001111111000011111001010110\
+    0111110011001111101100100100111001110111110000000010110011100111";
+
+/// The remainder of 24 ones, then `payload`, times D^24, by a plain division one bit at a time.
+fn divided(payload: &Payload) -> u32
+    requires { length payload.now ≤ 128 }
+{
+    let mut register = 0u32;
+    for place in 0..24 + payload.len() {
+        let bit = place < 24 || payload.get(place - 24);
+        let left = register >> 23 == 1;
+        register = register << 1 & 0xff_ffff;
+        if left != bit {
+            register ^= 0xb2_b117;
+        }
+    }
+    register
+}
+
+#[test]
+fn parities_are_those_of_a_plain_division(rt: HostRuntime) {
+    for len in 1..=128 {
+        let payload: Payload = row_of(&DIGITS[..len]);
+        let block = attach(&payload, 0x1234);
+        assert_eq!(rt; block.number_at(len, 24), divided(&payload) ^ 0x1234);
+        assert!(rt; strip(&block, 0x1234) == Some(payload));
+        assert!(rt; strip(&block, 0x1235).is_none());
+    }
+}
 
 #[test]
 fn masked_blocks_are_the_known_ones(rt: HostRuntime) {
