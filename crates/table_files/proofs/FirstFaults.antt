@@ -2,7 +2,7 @@
 use Rattle.std.proofs.Common.{◌≡◌, ℕ, ◌+◌, ◌<◌, ◌≤◌, true, false, eqb, nat_lt}
 use Rattle.std.proofs.Common.{List, [], ◌∷◌, ◌++◌, length, Some, Ok, Err, refl, sym, ◌∙◌, ap, subst}
 use Rattle.std.specs.List.{list_any}
-use Rattle.std.proofs.lemmas.Bool.{le-leb, lt-leb, lt-ltb}
+use Rattle.std.proofs.lemmas.Bool.{le-leb, lt-ltb}
 use Rattle.table_files.specs.FirstTableFault.{BeginsWithNoDigit, FindsFirstFault, IsBadByte, IsFaultBehind, IsNextNumber}
 use Rattle.table_files.specs.FirstTableFault.{MayFollow, SpellsPart}
 use Rattle.table_files.specs.Permutation.{IsPart}
@@ -11,7 +11,7 @@ use Rattle.table_files.specs.TableText.{DigitRun, Reading, and_then, complete, e
 use Rattle.table_files.specs.TableText.{read_table, step}
 use Rattle.table_files.specs.declared.fault.TableFault.{TableFault}
 use Rattle.table_files.specs.declared.fault.TableFault.TheVariants.{BadByte, TooLarge, Repeated, Count}
-use Rattle.table_files.proofs.Parts.{inside_from_any, list_any_flip}
+use Rattle.table_files.proofs.Parts.{found_repeated, inside_from_any, list_any_flip}
 use Rattle.table_files.proofs.Spellings.{IsReadAs, number_read, read_behind, spelled_read, spelled_read_as, without_run}
 use Rattle.table_files.proofs.WhatIsSpelled.{IsOutcome, read_outcome}
 
@@ -77,10 +77,9 @@ large_refused size at value numbers large = rw (le-leb size value large) refl
 
 repeated_refused : (size at value : ℕ) (numbers : List ℕ) → IsPart size numbers → list_any (eqb value) numbers ≡ true
     → judged size numbers (record { at = at; value = value }) ≡ Err (Repeated value)
-unfolding judged
 repeated_refused size at value numbers part there =
     let below : value < size = inside_from_any size numbers part.inside value there in
-    rw (lt-leb size value below, list_any_flip value numbers ∙ there) refl
+    sym (found_repeated size numbers (record { at = at; value = value }) below (list_any_flip value numbers ∙ there))
 
 few_refused : (size found : ℕ) (numbers : List ℕ) → length numbers ≡ found → found < size
     → complete size numbers ≡ Err (Count found)

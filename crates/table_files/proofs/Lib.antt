@@ -1,5 +1,6 @@
 mod Examples
 pub mod Parts
+mod Flags
 pub mod Steps
 pub mod ReadTables
 pub mod Spellings

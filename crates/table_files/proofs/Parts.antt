@@ -1,6 +1,6 @@
 -- Numbers below a size with no two equal: there is room for one more, and as many as the size make a table.
 use Rattle.std.proofs.Common.{◌≡◌, ℕ, ◌+◌, ◌<◌, ◌≤◌, ◌==◌, ◌||◌, true, false, All, eqb, List, [], ◌∷◌, ◌++◌, length, take, refl}
-use Rattle.std.proofs.Common.{sym, ◌∙◌, ap, subst, arith, rules, slice_set, nat_le, Ok, length-append}
+use Rattle.std.proofs.Common.{sym, ◌∙◌, ap, subst, arith, rules, slice_set, nat_le, Ok, Err, length-append}
 use Rattle.std.specs.Cmp.{nat_eq_equiv}
 use Rattle.std.specs.List.{IsDistinct, list_any}
 use Rattle.std.proofs.lemmas.Bool.{eqb-true}
@@ -11,6 +11,7 @@ use Rattle.std.proofs.lemmas.Map.Steps.{length-le_from_distinct_below}
 use Rattle.std.proofs.lemmas.Map.Views.{Contains-from_any}
 use Rattle.table_files.specs.Permutation.{IsPart, IsTable}
 use Rattle.table_files.specs.TableText.{DigitRun, judged}
+use Rattle.table_files.specs.declared.fault.TableFault.TheVariants.{Repeated}
 
 -- a test for equality asked from the other side
 pub list_any_flip : (value : ℕ) (xs : List ℕ) → list_any (λ x. x == value) xs ≡ list_any (eqb value) xs
@@ -90,6 +91,14 @@ unfolding judged
 found_read numbers found run room below new =
     let small : nat_le (length numbers) run.value ≡ false = search rules in
     rw (small, new, take_more_set numbers found run.value room)
+
+-- a number that was found before is refused
+pub found_repeated : (size : ℕ) (numbers : List ℕ) (run : DigitRun) → run.value < size
+    → list_any (λ x. x == run.value) numbers ≡ true → Err (Repeated run.value) ≡ judged size numbers run
+unfolding judged
+found_repeated size numbers run below there =
+    let small : nat_le size run.value ≡ false = search rules in
+    rw (small, there) refl
 
 -- an array that is full of a part is a table
 pub found_table : (numbers : List ℕ) (found : ℕ) → IsPart (length numbers) (take found numbers) → length numbers ≤ found

@@ -3,3 +3,4 @@ pub mod TableText
 pub mod SpelledTables
 pub mod FirstTableFault
 pub mod NumbersInArray
+pub mod SeenNumbers
