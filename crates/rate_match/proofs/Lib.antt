@@ -1,8 +1,11 @@
 pub mod Subblocks
 pub mod Lengths
+pub mod Ordered
 pub mod Places
 pub mod Repeating
 pub mod Rises
 pub mod Selected
+pub mod ShiftedBits
 pub mod Sent
 pub mod Unselected
+pub mod WrittenWords

@@ -31,7 +31,8 @@ turn_of_subblock b l = same_at (λ a. get_or turn_order (get_or subblock_order a
 subblock_of_turn : (b : ℕ) → b < 32 → get_or subblock_order (get_or turn_order b 0) 0 ≡ b
 subblock_of_turn b l = same_at (λ a. get_or subblock_order (get_or turn_order a 0) 0) (λ a. a) 32 b 0 refl l
 
-turn_at_most : (b : ℕ) → b < 32 → get_or turn_order b 0 ≤ 31
+-- no turn is above the last of 32
+pub turn_at_most : (b : ℕ) → b < 32 → get_or turn_order b 0 ≤ 31
 turn_at_most b l =
     leb-true (get_or turn_order b 0) 31 (same_at (λ a. leb (get_or turn_order a 0) 31) (λ a. true) 32 b false refl l)
 

@@ -1,8 +1,9 @@
 -- The place in the order of sending of each bit that is sent.
-use Rattle.std.proofs.Common.{ℕ, ◌≡◌, ◌+◌, ◌-◌, ◌*◌, ◌%◌, ◌<◌, ◌≤◌, inl, inr, refl, sym, ◌∙◌, arith}
+use Rattle.std.proofs.Common.{ℕ, ◌≡◌, ◌+◌, ◌-◌, ◌*◌, ◌%◌, ◌<◌, ◌≤◌, inl, inr, refl, ap, sym, ◌∙◌, arith}
 use Rattle.std.proofs.lemmas.Bool.{cases_lt, le-leb, lt-leb}
 use Rattle.std.proofs.Math.Nat.{mod-eq_of_lt, mod-lt}
-use Rattle.rate_match.specs.RateMatching.{matching, sent_place}
+use Rattle.rate_match.specs.RateMatching.{matching, place_by, sent_place}
+use Rattle.rate_match.specs.declared.matching.Matching.{Matching}
 use Rattle.rate_match.specs.declared.matching.Matching.TheVariants.{Repeated, Punctured, Shortened}
 
 -- the way that a condition gives
@@ -34,6 +35,11 @@ sent_punctured n k e i h l = rw (matching_punctured n k e h l) refl
 pub sent_shortened : (n k e i : ℕ) → e < n → 7 * e < 16 * k → sent_place n k e i ≡ i
 unfolding sent_place
 sent_shortened n k e i h l = rw (matching_shortened n k e h l) refl
+
+-- by the way that it is
+pub sent_by : (n k e i : ℕ) (way : Matching) → way ≡ matching n k e → sent_place n k e i ≡ place_by way n e i
+unfolding sent_place
+sent_by n k e i way h = ap (λ (w : Matching). place_by w n e i) (sym h)
 
 -- one of the three ways
 pub by_ways : (P : ℕ → ℕ → ℕ → Type 0) → ((n k e : ℕ) → n ≤ e → P n k e) → ((n k e : ℕ) → e < n → 16 * k ≤ 7 * e → P n k e) →

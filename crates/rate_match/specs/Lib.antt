@@ -1,5 +1,6 @@
 pub mod SubblockOrder
 pub mod MotherCode
 pub mod RateMatching
+pub mod Pieces
 pub mod Received
 pub mod Repeats

@@ -5,9 +5,13 @@
 mod length;
 mod matching;
 mod order;
+mod packed;
+mod pieces;
 mod selection;
+mod shifts;
 
 pub use length::length_for;
 pub use matching::Matching;
 pub use order::{order_of, place_of};
+pub use packed::{select_words, unselect_words};
 pub use selection::{Differs, select, unselect};

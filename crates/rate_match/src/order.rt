@@ -4,13 +4,13 @@ ghost use Rattle.rate_match.specs.SubblockOrder.{position_at};
 ghost use Rattle.std.specs.Prelude.{◌≡◌, ◌<◌, IsTrue};
 
 /// The sub-block of the word that is sent at each of 32 turns.
-const SUBBLOCKS: [usize; 32] = [
+pub(crate) const SUBBLOCKS: [usize; 32] = [
     0, 1, 2, 4, 3, 5, 6, 7, 8, 16, 9, 17, 10, 18, 11, 19, 12, 20, 13, 21, 14, 22, 15, 23, 24, 25,
     26, 28, 27, 29, 30, 31,
 ];
 
 /// The turn at which each of the 32 sub-blocks is sent.
-const TURNS: [usize; 32] = [
+pub(crate) const TURNS: [usize; 32] = [
     0, 1, 2, 4, 3, 5, 6, 7, 8, 10, 12, 14, 16, 18, 20, 22, 9, 11, 13, 15, 17, 19, 21, 23, 24, 25,
     26, 28, 27, 29, 30, 31,
 ];

@@ -85,7 +85,7 @@ pub fn unselect<const N: usize>(bits: &Coded, k: usize, d: &mut [bool; N]) -> Re
 }
 
 /// The place of the first bit from `n` on that differs from the one of the first `n` that it repeats.
-fn first_differing(bits: &Coded, n: usize) -> Option<usize>
+pub(crate) fn first_differing(bits: &Coded, n: usize) -> Option<usize>
     requires { IsTrue (is_code_length n) }
     ensures { MatchOption result (RepeatsBelow n bits.now (length bits.now)) (λ at. IsFirstDiffering n bits.now at) }
 {
