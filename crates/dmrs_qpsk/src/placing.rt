@@ -5,9 +5,8 @@ ghost use Rattle.coreset_map.specs.RegOrder.{AreInside, AreRegs};
 ghost use Rattle.dmrs_qpsk.specs.PointsOnGrid.{reg_point, image_of};
 ghost use Rattle.dmrs_qpsk.specs.Placed.{IsRegPut, AreRegsPut};
 
-use crate::reference::{
-    data_before, has_reference, qpsk_point, reference_point, references_before,
-};
+use crate::reference::{data_before, has_reference, qpsk_point, references_before};
+use crate::sequences::{Sequence, next_reference};
 use arrayvec::ArrayVec;
 use bits_core::Coded;
 use coreset_map::Reg;
@@ -37,14 +36,25 @@ fn put_bits_core(grid: &mut Grid, first: u8, regs: &[Reg], id: u16, bits: &Coded
     ensures size { length grid.old.points ≡ 14 * (12 * grid.old.blocks) }
 {
     let _blocks = grid.blocks();
+    let mut sequence = None;
     for j in 0..regs.len() {
         let reg = regs[j];
-        put_reg(grid, first + reg.symbol, id, reg.block, bits, j);
+        let symbol = first + reg.symbol;
+        put_reg(grid, &mut sequence, symbol, id, reg.block, bits, j);
     }
 }
 
-/// Writes the 12 points of REG `j` of a candidate, which is in this symbol of the slot and this block.
-fn put_reg(grid: &mut Grid, symbol: u8, id: u16, block: u16, bits: &Coded, j: usize)
+/// Writes the 12 points of REG `j` of a candidate, which is in this symbol of the slot and this block. `sequence` is where the
+/// reference points were last read, so that they need not be counted from the first one.
+fn put_reg(
+    grid: &mut Grid,
+    sequence: &mut Option<Sequence>,
+    symbol: u8,
+    id: u16,
+    block: u16,
+    bits: &Coded,
+    j: usize,
+)
     requires symbol { symbol < 14 }
     requires block { block < grid.old.blocks }
     requires bits { 18 * j + 18 ≤ length bits.now }
@@ -52,14 +62,23 @@ fn put_reg(grid: &mut Grid, symbol: u8, id: u16, block: u16, bits: &Coded, j: us
 {
     let slot = grid.slot();
     for k in 0..12u8 {
-        let point = point_in_reg(slot, symbol, id, block, bits, j, k);
+        let point = point_in_reg(sequence, slot, symbol, id, block, bits, j, k);
         grid.put(symbol, 12 * block + u16::from(k), point);
     }
 }
 
-/// The point at subcarrier `k` of REG `j`.
+/// The point at subcarrier `k` of REG `j`, where `sequence` is where the reference points were last read.
 #[tactic(auto, unfolding(crate::specs::PointsOnGrid::reg_point))]
-fn point_in_reg(slot: u16, symbol: u8, id: u16, block: u16, bits: &Coded, j: usize, k: u8) -> Point
+fn point_in_reg(
+    sequence: &mut Option<Sequence>,
+    slot: u16,
+    symbol: u8,
+    id: u16,
+    block: u16,
+    bits: &Coded,
+    j: usize,
+    k: u8,
+) -> Point
     requires slot { slot < 80 }
     requires symbol { symbol < 14 }
     requires block { block < 275 }
@@ -68,7 +87,7 @@ fn point_in_reg(slot: u16, symbol: u8, id: u16, block: u16, bits: &Coded, j: usi
     ensures { result ≡ reg_point slot symbol id block bits.now j k }
 {
     if has_reference(k) {
-        return reference_point(slot, symbol, id, block, references_before(k));
+        return next_reference(sequence, slot, symbol, id, block, references_before(k));
     }
     let _length = bits.len();
     let at = 18 * j + 2 * usize::from(data_before(k));
