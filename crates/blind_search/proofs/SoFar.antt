@@ -8,7 +8,9 @@ use Rattle.slot_grid.specs.Grid.{GridValue}
 use Rattle.table_files.specs.declared.tables.Tables.{Tables}
 use Rattle.monitor_plan.specs.declared.watch.Watch.{Watch}
 use Rattle.monitor_plan.specs.Watch.{no_watch, watch_at}
+use Rattle.dci_codec.specs.declared.codes.Codes.{Codes}
 use Rattle.dci_codec.specs.declared.heard.Heard.{Heard}
+use Rattle.dci_codec.specs.KnownCodes.{AreOf}
 use Rattle.dci_codec.specs.TheSpelling.{heard_at}
 use Rattle.blind_search.specs.Report.{heard_in, report_of}
 use Rattle.blind_search.proofs.Entries.{given_more, length-given}
@@ -18,6 +20,12 @@ pub record IsHeardBelow (tables : Tables) (grid : GridValue) (watches : List Wat
     (heard : Vec Heard Global) : Type 0 where
   pub report : heard.items ≡ filter_map (heard_in tables grid watches) (range_with_len 0 n)
   pub room : least ≤ vec_capacity heard
+
+-- so far the entries are those of the watches below a number, and the codes that are kept are by the tables
+pub record IsSearchedBelow (tables : Tables) (grid : GridValue) (watches : List Watch) (n least : ℕ)
+    (heard : Vec Heard Global) (codes : Codes) : Type 0 where
+  pub entries : IsHeardBelow tables grid watches n least heard
+  pub kept : AreOf tables codes
 
 -- there is room for one entry more
 pub room_left : (tables : Tables) (grid : GridValue) (watches : List Watch) (n least : ℕ) (heard : Vec Heard Global) → n < least

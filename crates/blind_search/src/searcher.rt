@@ -3,11 +3,12 @@ ghost use Rattle.std.specs.Prelude.{◌≡◌, ◌<◌, ◌≤◌, [], ◌++◌,
 ghost use Rattle.std.specs.Borrow.{sem};
 ghost use Rattle.std.specs.Option.{option_to_list};
 ghost use Rattle.monitor_plan.specs.Watch.{IsInside, IsSound};
+ghost use Rattle.dci_codec.specs.KnownCodes.{AreOf};
 ghost use Rattle.dci_codec.specs.TheSpelling.{heard_at};
 ghost use Rattle.blind_search.specs.Report.{AreOfWatches, report_of};
 
 use bits_core::NoMemory;
-use dci_codec::{Heard, hear};
+use dci_codec::{Codes, Heard, hear_with};
 use monitor_plan::{Plan, Watch};
 use slot_grid::Grid;
 use std::alloc::Global;
@@ -53,7 +54,14 @@ impl Searcher {
         ensures within { AreOfWatches self.old.plan result.now }
     {
         self.heard.clear();
-        push_heard(&mut self.heard, tables, grid, self.plan.watches());
+        let mut codes = Codes::new();
+        push_heard(
+            &mut self.heard,
+            &mut codes,
+            tables,
+            grid,
+            self.plan.watches(),
+        );
         self.found()
     }
 
@@ -73,31 +81,47 @@ impl Searcher {
     }
 }
 
-/// Appends what is heard on a grid at each watch, in their order.
-fn push_heard(heard: &mut Vec<Heard>, tables: &Tables, grid: &Grid, watches: &[Watch])
+/// Appends what is heard on a grid at each watch, in their order. `codes` are those that earlier watches needed.
+fn push_heard(
+    heard: &mut Vec<Heard>,
+    codes: &mut Codes,
+    tables: &Tables,
+    grid: &Grid,
+    watches: &[Watch],
+)
     requires empty { heard.old.items ≡ [] }
     requires room { length watches.now ≤ vec_capacity heard.old }
     requires few { length watches.now ≤ 11200 }
     requires sound { All IsSound watches.now }
     requires inside { All (IsInside grid.now.blocks) watches.now }
+    requires codes { AreOf tables.now codes.old }
     ensures report { heard.new.items ≡ report_of tables.now grid.now watches.now }
     ensures within { AreOfWatches watches.now heard.new.items }
     ensures room { vec_capacity heard.old ≤ vec_capacity heard.new }
 {
     for (number, watch) in watches.iter().enumerate() {
-        push_heard_at(heard, tables, grid, watch, number as u32);
+        push_heard_at(heard, codes, tables, grid, watch, number as u32);
     }
 }
 
 /// Appends what is heard on a grid at the watch of this number, where something is.
-fn push_heard_at(heard: &mut Vec<Heard>, tables: &Tables, grid: &Grid, watch: &Watch, number: u32)
+fn push_heard_at(
+    heard: &mut Vec<Heard>,
+    codes: &mut Codes,
+    tables: &Tables,
+    grid: &Grid,
+    watch: &Watch,
+    number: u32,
+)
     requires room { length heard.old.items < vec_capacity heard.old }
     requires sound { IsSound watch.now }
     requires inside { IsInside grid.now.blocks watch.now }
+    requires codes { AreOf tables.now codes.old }
     ensures entry { heard.new.items ≡ heard.old.items ++ option_to_list (heard_at tables.now grid.now watch.now number) }
     ensures room { vec_capacity heard.old ≤ vec_capacity heard.new }
+    ensures codes { AreOf tables.now codes.new }
 {
-    if let Ok(entry) = hear(tables, watch, number, grid) {
+    if let Ok(entry) = hear_with(codes, tables, watch, number, grid) {
         match heard.push(entry) {
             Ok(()) => {}
             Err(_) => unreachable!(),

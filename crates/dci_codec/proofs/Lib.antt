@@ -2,6 +2,7 @@ pub mod Scrambles
 pub mod FieldValues
 pub mod CodableBlocks
 pub mod WatchLists
+pub mod KeptCodes
 pub mod Carriers
 pub mod PlacesByNumber
 pub mod Agreements

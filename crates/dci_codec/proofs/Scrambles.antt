@@ -1,33 +1,41 @@
--- Bits that are added to the sequence one after another, and twice.
-use Rattle.std.proofs.Common.{◌≡◌, ℕ, ◌+◌, ◌<◌, Bool, true, false, not, List, [], ◌∷◌, ◌++◌, length, map, refl, sym}
-use Rattle.std.proofs.Common.{◌∙◌, ap, arith}
-use Rattle.std.specs.Bool.{beq}
-use Rattle.std.specs.List.{range_with_len}
+-- Bits that are added to the sequence word by word, and twice.
+use Rattle.std.proofs.Common.{◌≡◌, ℕ, ◌+◌, ◌*◌, ◌<◌, ◌≤◌, Bool, false, List, length, sym, ◌∙◌, ap, arith, zero-add}
+use Rattle.std.specs.Int.RustNames.{bit_xor}
 use Rattle.std.proofs.lemmas.List.{same_lists, get_or_default}
-use Rattle.std.proofs.lemmas.List.FromFn.{get_or-map-range_with_len, length-map-range_with_len, map-range_with_len_more}
+use Rattle.std.proofs.lemmas.List.FromFn.{get_or-map-range_with_len, length-map-range_with_len, fill_by_all}
 use Rattle.bits_core.specs.Bits.{plus, bit_of}
-use Rattle.bits_core.proofs.Sums.{plus_cancel}
-use Rattle.gold_scrambler.specs.Gold.{gold}
+use Rattle.bits_core.specs.Ones.{has_one}
+use Rattle.bits_core.specs.Row.{row_bits}
+use Rattle.bits_core.proofs.Rows.{length-row, get-row}
+use Rattle.bits_core.proofs.Sums.{has_one-xor, plus_cancel}
+use Rattle.gold_scrambler.specs.Gold.{gold, gold_bits}
+use Rattle.gold_scrambler.specs.Stretches.{HasBits, HaveBits}
+use Rattle.gold_scrambler.proofs.Fills.{get_or-gold_bits}
 use Rattle.dci_codec.specs.Scrambling.{scrambled_bit, scrambled}
 
--- two bits differ exactly where their sum is 1
-differ_plus : (a b : Bool) → not (beq a b) ≡ plus a b
-differ_plus true true = refl
-differ_plus true false = refl
-differ_plus false true = refl
-differ_plus false false = refl
+-- the sum of two words has the sums of their bits
+pub word_of_sums : (c_init : ℕ) (bits sequence : List Bool) (at count a b : ℕ) → sequence ≡ gold_bits c_init 0 (length bits)
+    → count ≤ 64 → count + 64 * at ≤ length bits
+    → ((i : ℕ) → i < 64 → has_one a i ≡ bit_of bits (64 * at + i))
+    → ((i : ℕ) → i < 64 → has_one b i ≡ bit_of sequence (64 * at + i))
+    → HasBits (scrambled_bit c_init bits) (64 * at) count (bit_xor a b)
+word_of_sums c_init bits sequence at count a b is small fits h k = record {
+  bit = λ i l.
+      let place = 64 * at + i in
+      has_one-xor a b i
+      ∙ ap (λ x. plus x (has_one b i)) (h i (omega arith))
+      ∙ ap (plus (bit_of bits place)) (k i (omega arith) ∙ ap (λ s. bit_of s place) is)
+      ∙ ap (plus (bit_of bits place)) (get_or-gold_bits c_init 0 (length bits) place false (omega arith))
+      ∙ ap (λ n. plus (bit_of bits place) (gold c_init n)) (zero-add place);
+}
 
--- one more bit is added
-pub scrambled_more : (c_init : ℕ) (bits sum : List Bool) (at : ℕ) (new : List Bool) (a b : Bool)
-    → sum ≡ map (scrambled_bit c_init bits) (range_with_len 0 at)
-    → new ≡ sum ++ not (beq a b) ∷ [] → a ≡ bit_of bits at → b ≡ gold c_init at
-    → new ≡ map (scrambled_bit c_init bits) (range_with_len 0 (at + 1))
-scrambled_more c_init bits sum at new a b e f g h =
-    f
-    ∙ ap (λ s. s ++ not (beq a b) ∷ []) e
-    ∙ ap (λ x. map (scrambled_bit c_init bits) (range_with_len 0 at) ++ x ∷ [])
-    (differ_plus a b ∙ ap (λ x. plus x b) g ∙ ap (plus (bit_of bits at)) h)
-    ∙ sym (map-range_with_len_more (scrambled_bit c_init bits) 0 at at (omega arith))
+-- words that have the sums are the scrambled bits
+pub row_of_sums : (c_init : ℕ) (bits : List Bool) (words : List ℕ)
+    → HaveBits (scrambled_bit c_init bits) 0 (length bits) words
+    → row_bits words (length bits) ≡ scrambled c_init bits
+row_of_sums c_init bits words h =
+    fill_by_all (scrambled_bit c_init bits) (row_bits words (length bits)) (length bits) false (length-row words (length bits))
+    (λ i l. get-row words (length bits) i l ∙ h.bit i l ∙ ap (scrambled_bit c_init bits) (zero-add i))
 
 -- scrambled bits are as many
 pub length-scrambled : (c_init : ℕ) (bits : List Bool) → length (scrambled c_init bits) ≡ length bits

@@ -7,6 +7,7 @@ pub mod Hearing
 pub mod WatchPlaces
 pub mod TheSpelling
 pub mod Silences
+pub mod KnownCodes
 pub mod Answer
 pub mod Spelled
 pub mod Equality

@@ -8,12 +8,12 @@ ghost use Rattle.dci_codec.specs.declared.heard.Heard.{Heard};
 ghost use Rattle.dci_codec.specs.declared.silence.Silence.{Silence};
 ghost use Rattle.dci_codec.specs.Answer.{answer_at};
 ghost use Rattle.dci_codec.specs.Hearing.{AreTables, IsHeard, IsReadAs};
+ghost use Rattle.dci_codec.specs.KnownCodes.{AreOf};
 ghost use Rattle.dci_codec.specs.Silences.{IsAnswer, IsPayloadAnswer, IsSilence};
 ghost use Rattle.dci_codec.specs.TheSpelling.{heard_at};
 
-use crate::coding::code_at;
 use crate::scrambling::scramble;
-use crate::{Heard, Silence};
+use crate::{Codes, Heard, Silence};
 use bits_core::Payload;
 use crc_mask::strip;
 use dci_fields::{Format, Values, unpack};
@@ -34,18 +34,47 @@ pub fn hear(tables: &Tables, watch: &Watch, number: u32, grid: &Grid) -> Result<
     ensures found { result_ok result ≡ heard_at tables.now grid.now watch.now number }
     ensures answer { result ≡ answer_at tables.now grid.now watch.now number }
 {
-    hear_core(tables, watch, number, grid)
+    let mut codes = Codes::new();
+    hear_with(&mut codes, tables, watch, number, grid)
+}
+
+/// As `hear`, with the codes that a search by these tables has made so far: none is made again while it is kept.
+pub fn hear_with(
+    codes: &mut Codes,
+    tables: &Tables,
+    watch: &Watch,
+    number: u32,
+    grid: &Grid,
+) -> Result<Heard, Silence>
+    requires sound { IsSound watch.now }
+    requires inside { IsInside grid.now.blocks watch.now }
+    requires codes { AreOf tables.now codes.old }
+    ensures heard { (h : Heard) → (result ≡ Ok h) ↔ IsHeard tables.now grid.now watch.now number h }
+    ensures silent { (s : Silence) → (result ≡ Err s) ↔ IsSilence tables.now grid.now watch.now s }
+    ensures found { result_ok result ≡ heard_at tables.now grid.now watch.now number }
+    ensures answer { result ≡ answer_at tables.now grid.now watch.now number }
+    ensures codes { AreOf tables.now codes.new }
+{
+    hear_core(codes, tables, watch, number, grid)
 }
 
 /// The same, stage by stage: the payload, then the format that it is of.
-fn hear_core(tables: &Tables, watch: &Watch, number: u32, grid: &Grid) -> Result<Heard, Silence>
+fn hear_core(
+    codes: &mut Codes,
+    tables: &Tables,
+    watch: &Watch,
+    number: u32,
+    grid: &Grid,
+) -> Result<Heard, Silence>
     requires sound { IsSound watch.now }
     requires inside { IsInside grid.now.blocks watch.now }
+    requires codes { AreOf tables.now codes.old }
     ensures answer { IsAnswer tables.now grid.now watch.now number result }
     ensures tables { AreTables tables.now }
+    ensures codes { AreOf tables.now codes.new }
 {
     are_tables(tables);
-    let payload = hear_payload(tables, watch, grid)?;
+    let payload = hear_payload(codes, tables, watch, grid)?;
     match read(watch, number, &payload) {
         Some(heard) => Ok(heard),
         None => Err(Silence::Format),
@@ -62,17 +91,24 @@ fn are_tables(tables: &Tables)
 
 /// The payload that the grid carries: the bits of the candidate, without their scrambling, are the code of the payload with
 /// its parity, masked by the handset's RNTI; or the stage that fails first.
-fn hear_payload(tables: &Tables, watch: &Watch, grid: &Grid) -> Result<Payload, Silence>
+fn hear_payload(
+    codes: &mut Codes,
+    tables: &Tables,
+    watch: &Watch,
+    grid: &Grid,
+) -> Result<Payload, Silence>
     requires carrying { IsCarrying watch.now }
     requires inside { IsInside grid.now.blocks watch.now }
-    ensures { IsPayloadAnswer tables.now grid.now watch.now result }
+    requires codes { AreOf tables.now codes.old }
+    ensures answer { IsPayloadAnswer tables.now grid.now watch.now result }
+    ensures codes { AreOf tables.now codes.new }
 {
     let bits = match take_bits(grid, watch.symbol, &watch.regs, watch.dmrs_id) {
         Ok(bits) => scramble(&bits, watch.scramble),
         Err(bad) => return Err(Silence::Spot(bad)),
     };
-    let code = code_at(tables, watch);
-    match code.decode(&bits) {
+    codes.turn_to(tables, watch);
+    match codes.last().decode(&bits) {
         Ok(block) => match strip(&block, watch.rnti) {
             Some(payload) => Ok(payload),
             None => Err(Silence::Crc),

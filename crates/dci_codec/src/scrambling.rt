@@ -10,10 +10,12 @@ pub fn scramble(bits: &Coded, c_init: u32) -> Coded
     requires { c_init < 2 ^ 31 }
     ensures { result ≡ scrambled c_init bits.now }
 {
-    let mut gold = Gold::new(c_init);
-    let mut sum = Coded::new();
-    for at in 0..bits.len() {
-        sum.push(bits.get(at) != gold.next_bit());
+    let len = bits.len();
+    let mut sequence = Coded::new();
+    Gold::new(c_init).fill(&mut sequence, len);
+    let mut words = [0; 27];
+    for at in 0..len.div_ceil(64) {
+        words[at] = bits.word(at) ^ sequence.word(at);
     }
-    sum
+    Coded::of_words(words, len)
 }

@@ -59,6 +59,13 @@ impl Code {
         }
     }
 
+    /// Whether it is the code of blocks of `k` bits that are sent in `e`.
+    pub fn is_for(&self, k: usize, e: usize) -> bool
+        ensures { IsTrue result ↔ ((self.now.block_len ≡ k) × (self.now.coded_len ≡ e)) }
+    {
+        self.block_len == k && self.coded_len == e
+    }
+
     /// The code of a block.
     pub fn encode(&self, c: &Block) -> Coded
         requires { length c.now ≡ self.now.block_len }

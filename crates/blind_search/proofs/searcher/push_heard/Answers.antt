@@ -9,22 +9,26 @@ pub push_heard_at-requires-clause-room : goal.push_heard_at-requires-clause-room
 push_heard_at-requires-clause-room c =
     let l = c.loop-number in
     room_left c.args.tables.now c.args.grid.now c.args.watches.now l.number (vec_capacity c.args.heard.now) l.heard
-    (omega (arith, c.loop-number-test.true, c.requires.room)) l.invariant
+    (omega (arith, c.loop-number-test.true, c.requires.room)) l.invariant.entries
 
 pub loop-number-preserved : goal.loop-number-preserved
 loop-number-preserved c =
     let l = c.loop-number in
-    heard_more c.args.tables.now c.args.grid.now c.args.watches.now l.number (vec_capacity c.args.heard.now) l.heard
-    c.push_heard_at.new.heard
-    c.index-watches-number.result c.loop-number-test.true c.index-watches-number.is l.invariant
-    c.push_heard_at.ensures.entry c.push_heard_at.ensures.room
+    record {
+      entries =
+          heard_more c.args.tables.now c.args.grid.now c.args.watches.now l.number (vec_capacity c.args.heard.now) l.heard
+          c.push_heard_at.new.heard
+          c.index-watches-number.result c.loop-number-test.true c.index-watches-number.is l.invariant.entries
+          c.push_heard_at.ensures.entry c.push_heard_at.ensures.room;
+      kept = c.push_heard_at.ensures.codes;
+    }
 
 -- after the last watch
 all : (c : goal.After-loop-number) → c.loop-number.heard.items ≡ report_of c.args.tables.now c.args.grid.now c.args.watches.now
 all c =
     let l = c.loop-number in
     heard_all c.args.tables.now c.args.grid.now c.args.watches.now l.number (vec_capacity c.args.heard.now) l.heard
-    c.loop-number-test.false l.auto.number-end l.invariant
+    c.loop-number-test.false l.auto.number-end l.invariant.entries
 
 pub returns-clause-report : goal.returns-clause-report
 returns-clause-report = all

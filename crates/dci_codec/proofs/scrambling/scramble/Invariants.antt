@@ -1,12 +1,10 @@
-use Rattle.std.proofs.Common.{◌≡◌, length, map}
-use Rattle.std.specs.List.{range_with_len}
+use Rattle.std.proofs.Common.{◌≡◌, ◌*◌, min, length}
+use Rattle.gold_scrambler.specs.Stretches.{HaveBits}
 use Rattle.dci_codec.specs.Scrambling.{scrambled_bit}
 use Rattle.dci_codec.proofs.scrambling.scramble.Given as goal
 
 abbrev pub invariant-loop-at : goal.invariant-loop-at
 invariant-loop-at l = record {
-  start : l.gold.c_init ≡ l.c_init;
-  place : l.gold.at ≡ l.at;
-  size : length l.sum ≡ l.at;
-  sums : l.sum ≡ map (scrambled_bit l.c_init l.bits) (range_with_len 0 l.at);
+  size : length l.words ≡ 27;
+  sums : HaveBits (scrambled_bit l.c_init l.bits) 0 (min (64 * l.at) (length l.bits)) l.words;
 }

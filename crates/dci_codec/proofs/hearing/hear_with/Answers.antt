@@ -1,6 +1,6 @@
 use Rattle.dci_codec.proofs.OneAnswer.{answer_is}
 use Rattle.dci_codec.proofs.Stages.{found_exactly, heard_exactly, silent_exactly}
-use Rattle.dci_codec.proofs.hearing.hear.Goals as goal
+use Rattle.dci_codec.proofs.hearing.hear_with.Goals as goal
 
 pub returns : goal.returns
 returns c =
@@ -17,4 +17,5 @@ returns c =
       silent = silent_exactly tables grid w n answer legal sound told;
       found = found_exactly tables grid w n answer legal sound told;
       answer = answer_is tables grid w n answer legal sound told;
+      codes = c.hear_core.ensures.codes;
     }

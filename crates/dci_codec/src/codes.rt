@@ -1,0 +1,70 @@
+//! The codes of a search, each kept for the watches that come next.
+ghost use Rattle.std.specs.Prelude.{◌≡◌, ◌↔◌, true, IsTrue, Some, is_some};
+ghost use Rattle.monitor_plan.specs.Watch.{IsCarrying};
+ghost use Rattle.table_files.specs.declared.tables.Tables.{Tables};
+ghost use Rattle.dci_codec.specs.KnownCodes.{AreOf, IsAt, IsThereFor};
+
+use crate::coding::code_at;
+use monitor_plan::Watch;
+use polar_chain::Code;
+use table_files::Tables;
+
+/// The codes of the two kinds of watch that came last: a set has two sizes at most, which take turns.
+#[derive(Debug, Drop)]
+pub struct Codes {
+    last: Option<Code>,
+    before: Option<Code>,
+}
+
+impl Codes {
+    /// No code yet.
+    pub fn new() -> Codes
+        ensures { (tables : Tables) → AreOf tables result }
+    {
+        Codes {
+            last: None,
+            before: None,
+        }
+    }
+
+    /// Makes the code at a watch the last one: one of the two, or else a new one in place of the older.
+    pub(crate) fn turn_to(&mut self, tables: &Tables, watch: &Watch)
+        requires carrying { IsCarrying watch.now }
+        requires known { AreOf tables.now self.old }
+        ensures last { IsAt tables.now watch.now self.new.last }
+        ensures known { AreOf tables.now self.new }
+    {
+        if is_at(&self.last, watch) {
+            return;
+        }
+        let last = self.last.take();
+        if is_at(&self.before, watch) {
+            self.last = self.before.take();
+        } else {
+            self.last = Some(code_at(tables, watch));
+        }
+        self.before = last;
+    }
+
+    /// The last code.
+    pub(crate) fn last(&self) -> &Code
+        requires { is_some self.now.last ≡ true }
+        ensures { self.now.last ≡ Some result.now }
+    {
+        match &self.last {
+            Some(code) => code,
+            None => unreachable!(),
+        }
+    }
+}
+
+/// Whether there is a code, and it is for the blocks at a watch.
+fn is_at(code: &Option<Code>, watch: &Watch) -> bool
+    requires { IsCarrying watch.now }
+    ensures { IsTrue result ↔ IsThereFor watch.now code.now }
+{
+    match code {
+        Some(code) => code.is_for(usize::from(watch.size) + 24, 108 * usize::from(watch.level)),
+        None => false,
+    }
+}
