@@ -26,7 +26,8 @@ use Rattle.table_files.proofs.Places.{table_place}
 use Rattle.list_facts.proofs.Counting.{IsPicked, count_before, picked_at}
 use Rattle.polar_chain.proofs.SentPlaces.{known_of_sent}
 
-count_within : (n k e p : ℕ) (order : List ℕ) (info : ℕ → Bool) → IsTable k order → IsInformation n k e info → p < n
+-- a position that carries a bit has a turn in the input order
+pub count_within : (n k e p : ℕ) (order : List ℕ) (info : ℕ → Bool) → IsTable k order → IsInformation n k e info → p < n
     → info p ≡ true →
     count_below p info < length order
 count_within n k e p order info o q l t =

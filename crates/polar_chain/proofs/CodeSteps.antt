@@ -1,7 +1,10 @@
 -- What the steps of coding and decoding leave.
-use Rattle.std.proofs.Common.{ℕ, ◌≡◌, ◌<◌, Bool, List, length, ap, subst, sym, ◌∙◌, arith}
+use Rattle.std.proofs.Common.{ℕ, ◌≡◌, ◌^◌, ◌<◌, Bool, List, length, ap, subst, sym, ◌∙◌, arith}
 use Rattle.std.specs.Prelude.{IsTrue}
 use Rattle.bits_core.specs.Bits.{bit_of}
+use Rattle.bits_core.specs.Row.{row_bits, word_bit}
+use Rattle.bits_core.proofs.RowWords.{bit_of-row}
+use Rattle.bits_core.proofs.Rows.{length-row}
 use Rattle.bits_core.specs.CodeLengths.{is_code_length}
 use Rattle.polar_kernel.specs.MatrixWord.{matrix_word, word_at}
 use Rattle.polar_kernel.proofs.Words.{bit_of-matrix_word, length-matrix_word, word_at_same}
@@ -33,7 +36,7 @@ unfolding coded
 coded_unfolded s n c size = ap (λ (x : ℕ). code_of x s.block_len s.coded_len s.order (bit_of s.positions) c) size
 
 -- the bits sent of the word of the laid bits are the code
-pub coded_is : (s : CodeShape) (n : ℕ) (c word moved out : List Bool) → IsTrue (is_code_length n) → n ≡ word_len s
+coded_is : (s : CodeShape) (n : ℕ) (c word moved out : List Bool) → IsTrue (is_code_length n) → n ≡ word_len s
     → length word ≡ n →
     ((i : ℕ) → i < length word → bit_of word i ≡ laid (bit_of s.positions) (in_input_order s.order c) i)
     → moved ≡ matrix_word word →
@@ -50,6 +53,27 @@ coded_is s n c word moved out legal size long bits moved_is out_is =
     ∙ bit_of_word n word p long below
     ∙ word_at_same n (bit_of word) u p (λ j b. bits j (omega arith)))
     ∙ coded_unfolded s n c size
+
+-- the same with the words in packed words, where the length is a power of two
+pub coded_of_words : (s : CodeShape) (n exponent : ℕ) (c : List Bool) (word moved : List ℕ) (out : List Bool)
+    → IsTrue (is_code_length n) → n ≡ word_len s → 2 ^ exponent ≡ n
+    → ((i : ℕ) → i < n → bit_of (row_bits word n) i ≡ laid (bit_of s.positions) (in_input_order s.order c) i)
+    → row_bits moved (2 ^ exponent) ≡ matrix_word (row_bits word (2 ^ exponent))
+    → out ≡ selected (2 ^ exponent) s.block_len s.coded_len (word_bit moved) → out ≡ coded s c
+coded_of_words s n exponent c word moved out legal size power bits moved_is out_is =
+    let k = s.block_len in
+    let e = s.coded_len in
+    let long = length-row word n in
+    let all : row_bits moved n ≡ matrix_word (row_bits word n) =
+    subst (λ (x : ℕ). row_bits moved x ≡ matrix_word (row_bits word x)) power moved_is in
+    let sent : out ≡ selected n k e (word_bit moved) =
+    subst (λ (x : ℕ). out ≡ selected x k e (word_bit moved)) power out_is in
+    coded_is s n c (row_bits word n) (row_bits moved n) out legal size long (λ i l. bits i (omega (arith, l, long))) all
+    (sent
+    ∙ selected_same n k e (word_bit moved) (bit_of (row_bits moved n))
+    (λ i l.
+    let p = position_at n (sent_place n k e i) in
+    sym (bit_of-row moved n p (position_below n (sent_place n k e i) legal))))
 
 -- what `unselect` leaves is the word of the received bits
 pub word_received : (n k : ℕ) (bits d : List Bool) → IsTrue (is_code_length n) → IsUnselected n k bits d
@@ -70,6 +94,17 @@ pub record IsInput (n k : ℕ) (bits word : List Bool) : Type 0 where
   pub received : List Bool
   pub unselected : IsUnselected n k bits received
   pub word_is : word ≡ matrix_word received
+
+-- the same in packed words, where the length is a power of two
+pub input_of_words : (n exponent k : ℕ) (bits input : List Bool) (received word : List ℕ) → 2 ^ exponent ≡ n
+    → IsUnselected (2 ^ exponent) k bits (row_bits received (2 ^ exponent))
+    → row_bits word (2 ^ exponent) ≡ matrix_word (row_bits received (2 ^ exponent))
+    → input ≡ row_bits word n → IsInput n k bits input
+input_of_words n exponent k bits input received word power unselected word_is same = record {
+  received = row_bits received n;
+  unselected = subst (λ (x : ℕ). IsUnselected x k bits (row_bits received x)) power unselected;
+  word_is = same ∙ subst (λ (x : ℕ). row_bits word x ≡ matrix_word (row_bits received x)) power word_is;
+}
 
 input_long : (n k : ℕ) (bits word : List Bool) → IsInput n k bits word → length word ≡ n
 input_long n k bits word q =

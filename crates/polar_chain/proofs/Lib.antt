@@ -1,3 +1,4 @@
+mod BitCarriers
 mod CodeBlocks
 mod CodeSteps
 mod CodeWords
@@ -5,4 +6,5 @@ pub mod Codes
 pub mod CodesByTables
 mod InputCounts
 mod InputSteps
+mod KnownWords
 mod SentPlaces

@@ -1,11 +1,13 @@
 -- Each known place of the word is sent, or is 0 with all that follow it.
-use Rattle.std.proofs.Common.{ℕ, ◌≡◌, ◌-◌, ◌*◌, ◌<◌, ◌≤◌, refl, ◌∙◌, arith, inl, inr, ◌⊎◌}
+use Rattle.std.proofs.Common.{ℕ, ◌≡◌, ◌-◌, ◌*◌, ◌<◌, ◌≤◌, ap, refl, sym, ◌∙◌, arith, inl, inr, ◌⊎◌}
 use Rattle.std.proofs.Math.Nat.{mod-eq_of_lt}
 use Rattle.std.proofs.lemmas.Bool.{cases_lt}
-use Rattle.rate_match.specs.RateMatching.{sent_place}
+use Rattle.rate_match.specs.RateMatching.{matching, sent_place}
+use Rattle.rate_match.specs.declared.matching.Matching.{Matching}
+use Rattle.rate_match.specs.declared.matching.Matching.TheVariants.{Repeated, Shortened}
 use Rattle.rate_match.proofs.Sent.{matching_punctured, matching-repeated, matching_shortened, sent_below, sent_punctured}
 use Rattle.rate_match.proofs.Sent.{sent_repeated, sent_shortened}
-use Rattle.polar_chain.specs.KnownPlaces.{IsKnown, first_known}
+use Rattle.polar_chain.specs.KnownPlaces.{IsKnown, first_by, first_known}
 
 -- with repetition all places are known
 pub known_repeated : (n k e : ℕ) → n ≤ e → first_known n k e ≡ 0
@@ -21,6 +23,16 @@ known_punctured n k e h g = rw (matching_punctured n k e h g) refl
 pub known_shortened : (n k e : ℕ) → e < n → 7 * e < 16 * k → first_known n k e ≡ 0
 unfolding first_known
 known_shortened n k e h g = rw (matching_shortened n k e h g) refl
+
+-- so all are known where none are left out from the front
+pub known_all : (n k e : ℕ) (way : Matching) → way ≡ matching n k e → (way ≡ Repeated) ⊎ (way ≡ Shortened) → first_known n k e ≡ 0
+unfolding first_known
+known_all n k e way is either =
+    ap (λ (w : Matching). first_by w n e) (sym is)
+    ∙ elim either [
+      | inl r ↦ ap (λ (w : Matching). first_by w n e) r
+      | inr s ↦ ap (λ (w : Matching). first_by w n e) s
+    ]
 
 -- a place that some coded bit has
 pub record IsSent (n k e m : ℕ) : Type 0 where

@@ -1,5 +1,4 @@
 //! The code of the blocks of one length that are sent in one number of bits (3GPP TS 38.212, 5.3.1 and 5.4.1).
-ghost use Rattle.bits_core.specs.CodeLengths.{is_code_length};
 ghost use Rattle.polar_chain.specs.CodeOfBlock.{code_by};
 ghost use Rattle.polar_chain.specs.CodeShape.{IsByTables, IsCode, coded, word_len};
 ghost use Rattle.polar_chain.specs.Decoding.{HasNoBlock, IsBlockOf, IsOutcome};
@@ -8,34 +7,46 @@ ghost use Rattle.rate_match.specs.Repeats.{IsFirstDiffering, RepeatsBelow};
 ghost use Rattle.std.specs.Prelude.{ℕ, ◌≡◌, ◌≤◌, ◌↔◌, Bool, IsTrue, List, length};
 
 use crate::NoWord;
+use crate::carriers::carriers_of;
 use crate::input::{lay, read};
-use crate::known::others_are_zero;
+use crate::known::tested_words;
+use crate::length::exponent_of;
+use crate::others::others_are_zero;
 use arrayvec::ArrayVec;
-use bits_core::{Block, Coded};
-use polar_kernel::transform;
+use bits_core::{BitRow, Block, Coded};
+use polar_kernel::transform_words;
 use polar_sets::{PositionSet, input_order, positions};
-use rate_match::{Differs, length_for, select, unselect};
+use rate_match::{Differs, length_for, select_words, unselect_words};
 use std::marker::Model;
 use table_files::Tables;
 
-/// How the blocks of one length are coded, and the received bits decoded: the input order of their bits and the positions
-/// that carry them.
+/// How the blocks of one length are coded, and the received bits decoded: the input order of their bits, the positions that
+/// carry them, which of these carries each bit, and the flags of those that are tested to be 0.
 #[derive(Debug, Drop)]
 pub struct Code {
     block_len: usize,
     coded_len: usize,
     order: ArrayVec<u16, 164>,
     positions: PositionSet,
+    carriers: [u16; 164],
+    tested: [u64; 8],
 }
 
 impl Model for Code {
+    ghost use Rattle.bits_core.specs.Bits.{bit_of};
+    ghost use Rattle.bits_core.specs.Row.{word_bit};
+    ghost use Rattle.polar_chain.specs.Carriers.{AreCarriers};
     ghost use Rattle.polar_chain.specs.CodeShape.{CodeShape, IsCode, shape};
+    ghost use Rattle.polar_chain.specs.TestedPlaces.{AreTested};
+    ghost use Rattle.rate_match.specs.MotherCode.{length_of};
 
     ghost Value = { CodeShape };
 
     ghost view = { λ c. shape c.block_len c.coded_len c.order.items c.positions };
 
-    ghost invariant = { λ c. IsCode (shape c.block_len c.coded_len c.order.items c.positions) };
+    ghost invariant = { λ c. IsCode (shape c.block_len c.coded_len c.order.items c.positions) ×
+        AreCarriers (length_of c.block_len c.coded_len) c.order.items (bit_of c.positions) c.carriers ×
+        AreTested (length_of c.block_len c.coded_len) c.block_len c.coded_len (bit_of c.positions) (word_bit c.tested) };
 }
 
 impl Code {
@@ -51,11 +62,18 @@ impl Code {
             coded result c ≡ code_by tables.now.reliability tables.now.input_order k e c }
         ensures sound { IsCode result }
     {
+        let order = input_order(&tables.input_order, k);
+        let positions = positions(&tables.reliability, k, e);
+        let len = length_for(k, e);
+        let carriers = carriers_of(order.as_slice(), &positions, len);
+        let tested = tested_words(len, k, e, &positions);
         Code {
             block_len: k,
             coded_len: e,
-            order: input_order(&tables.input_order, k),
-            positions: positions(&tables.reliability, k, e),
+            order,
+            positions,
+            carriers,
+            tested,
         }
     }
 
@@ -72,13 +90,13 @@ impl Code {
         ensures code { result ≡ coded self.now c.now }
         ensures len { length result ≡ self.now.coded_len }
     {
-        match length_for(self.block_len, self.coded_len) {
-            32 => self.encode_word::<32>(c),
-            64 => self.encode_word::<64>(c),
-            128 => self.encode_word::<128>(c),
-            256 => self.encode_word::<256>(c),
-            _ => self.encode_word::<512>(c),
-        }
+        let len = length_for(self.block_len, self.coded_len);
+        let n = exponent_of(len);
+        let mut bits = lay(c, &self.carriers);
+        transform_words(&mut bits, n);
+        let mut out = Coded::new();
+        select_words(&bits, n, self.block_len, self.coded_len, &mut out);
+        out
     }
 
     /// The block whose code the received bits are, or why there is none.
@@ -92,52 +110,23 @@ impl Code {
         self.decode_core(bits)
     }
 
-    /// What the received bits are, by the length of the word.
+    /// What the received bits are.
     fn decode_core(&self, bits: &Coded) -> Result<Block, NoWord>
         requires { length bits.now ≡ self.now.coded_len }
         ensures outcome { IsOutcome self.now bits.now result }
         ensures sound { IsCode self.now }
     {
-        match length_for(self.block_len, self.coded_len) {
-            32 => self.decode_word::<32>(bits),
-            64 => self.decode_word::<64>(bits),
-            128 => self.decode_word::<128>(bits),
-            256 => self.decode_word::<256>(bits),
-            _ => self.decode_word::<512>(bits),
-        }
-    }
-
-    /// The code of a block with a word of `N` bits.
-    fn encode_word<const N: usize>(&self, c: &Block) -> Coded
-        requires legal { IsTrue (is_code_length N) }
-        requires size { N ≡ word_len self.now }
-        requires len { length c.now ≡ self.now.block_len }
-        ensures code { result ≡ coded self.now c.now }
-        ensures len { length result ≡ self.now.coded_len }
-    {
-        let mut bits = [false; N];
-        lay(c, self.order.as_slice(), &self.positions, &mut bits);
-        transform(&mut bits);
-        let mut out = Coded::new();
-        select(&bits, self.block_len, self.coded_len, &mut out);
-        out
-    }
-
-    /// What the received bits are, with a word of `N` bits.
-    fn decode_word<const N: usize>(&self, bits: &Coded) -> Result<Block, NoWord>
-        requires legal { IsTrue (is_code_length N) }
-        requires size { N ≡ word_len self.now }
-        requires len { length bits.now ≡ self.now.coded_len }
-        ensures { IsOutcome self.now bits.now result }
-    {
-        let mut word = [false; N];
-        if let Err(Differs { at }) = unselect(bits, self.block_len, &mut word) {
+        let len = length_for(self.block_len, self.coded_len);
+        let n = exponent_of(len);
+        let mut word = [0; 8];
+        if let Err(Differs { at }) = unselect_words(bits, self.block_len, n, &mut word) {
             return Err(NoWord::Repeat { at });
         }
-        transform(&mut word);
-        if !others_are_zero(&word, self.block_len, self.coded_len, &self.positions) {
+        transform_words(&mut word, n);
+        let input = BitRow::of_words(word, len);
+        if !others_are_zero(&input, &self.tested) {
             return Err(NoWord::Frozen);
         }
-        Ok(read(&word, self.order.as_slice(), &self.positions))
+        Ok(read(&input, &self.carriers, self.block_len))
     }
 }

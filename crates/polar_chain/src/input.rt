@@ -1,60 +1,49 @@
-//! The input bits of a word: the bits of a block laid at the information positions, and read back (3GPP TS 38.212, 5.3.1).
+//! The input bits of a word: the bits of a block laid at the positions that carry them, and read back (3GPP TS 38.212, 5.3.1).
 ghost use Rattle.bits_core.specs.Bits.{bit_of};
-ghost use Rattle.polar_chain.specs.CodeOfBlock.{laid};
-ghost use Rattle.polar_chain.specs.Reading.{IsRead};
-ghost use Rattle.list_facts.specs.Counting.{count_below};
-ghost use Rattle.polar_sets.specs.InputOrder.{in_input_order};
-ghost use Rattle.std.specs.Prelude.{ℕ, ◌≡◌, ◌<◌, ◌≤◌, length};
-ghost use Rattle.table_files.specs.Permutation.{IsTable};
+ghost use Rattle.bits_core.specs.Row.{word_bit};
+ghost use Rattle.bits_core.specs.RowWriting.{IsWritten};
+ghost use Rattle.std.specs.Prelude.{ℕ, ◌≡◌, ◌≢◌, ◌*◌, ◌<◌, ◌≤◌, false, length, slice_index};
 
-use bits_core::Block;
-use polar_sets::PositionSet;
+use bits_core::{BitRow, Block};
 
-/// Lays the bits of `block` in the input order at the information positions of `word`, and 0 at the others.
-pub(crate) fn lay(block: &Block, order: &[u16], positions: &PositionSet, word: &mut [bool])
-    requires order { IsTable (length block.now) order.now }
-    requires room { count_below (length word.old) (bit_of positions.now) ≤ length block.now }
-    ensures { (i : ℕ) → i < length word.new →
-        bit_of word.new i ≡ laid (bit_of positions.now) (in_input_order order.now block.now) i }
+/// The input bits of a word, in words: each bit of `block` at the position that carries it, and 0 at the others.
+pub(crate) fn lay(block: &Block, carriers: &[u16; 164]) -> [u64; 8]
+    requires few { length block.now ≤ 164 }
+    requires inside { (bit : ℕ) → bit < length block.now → slice_index carriers.now bit < 512 }
+    requires apart { (bit other : ℕ) → bit < other → other < length block.now →
+        slice_index carriers.now bit ≢ slice_index carriers.now other }
+    ensures there { (bit : ℕ) → bit < length block.now →
+        word_bit result (slice_index carriers.now bit) ≡ bit_of block.now bit }
+    ensures others { (i : ℕ) → ((bit : ℕ) → bit < length block.now → slice_index carriers.now bit ≢ i) →
+        word_bit result i ≡ false }
 {
-    let mut turn = 0;
-    for at in 0..word.len() {
-        if positions.has(at) {
-            word[at] = block.get(usize::from(order[turn]));
-            turn += 1;
-        } else {
-            word[at] = false;
-        }
+    let mut words = [0; 8];
+    for bit in 0..block.len() {
+        put(&mut words, usize::from(carriers[bit]), block.get(bit));
     }
+    words
 }
 
-/// The block whose bits stand in the input order at the information positions of `word`.
-pub(crate) fn read(word: &[bool], order: &[u16], positions: &PositionSet) -> Block
-    requires order { IsTable (length order.now) order.now }
-    requires few { length order.now ≤ 164 }
-    requires room { count_below (length word.now) (bit_of positions.now) ≤ length order.now }
-    ensures len { length result ≡ length order.now }
-    ensures bits { IsRead (length word.now) order.now (bit_of positions.now) (bit_of word.now) result }
+/// The block of `len` bits each of which stands in `word` at the position that carries it.
+pub(crate) fn read(word: &BitRow<8>, carriers: &[u16; 164], len: usize) -> Block
+    requires few { len ≤ 164 }
+    requires inside { (bit : ℕ) → bit < len → slice_index carriers.now bit < length word.now }
+    ensures len { length result ≡ len }
+    ensures bits { (bit : ℕ) → bit < len → bit_of result bit ≡ bit_of word.now (slice_index carriers.now bit) }
 {
-    let mut block = zeros(order.len());
-    let mut turn = 0;
-    for at in 0..word.len() {
-        if positions.has(at) {
-            block.set(usize::from(order[turn]), word[at]);
-            turn += 1;
-        }
+    let mut words = [0; 3];
+    for bit in 0..len {
+        put(&mut words, bit, word.get(usize::from(carriers[bit])));
     }
-    block
+    Block::of_words(words, len)
 }
 
-/// A block of `len` zeros.
-fn zeros(len: usize) -> Block
-    requires { len ≤ 164 }
-    ensures { length result ≡ len }
+/// Writes one bit at place `at` of packed words, where 0 stands, and no other.
+fn put(words: &mut [u64], at: usize, bit: bool)
+    requires inside { at < 64 * length words.old }
+    requires free { word_bit words.old at ≡ false }
+    ensures written { IsWritten at bit words.old words.new }
+    ensures length { length words.new ≡ length words.old }
 {
-    let mut block = Block::new();
-    for _at in 0..len {
-        block.push(false);
-    }
-    block
+    words[at / 64] |= u64::from(bit) << (at % 64);
 }

@@ -2,10 +2,13 @@
 //! block in the input order, at the information positions, times the matrix, and of that word the bits that are sent.
 #![tactic(auto)]
 
+mod carriers;
 mod code;
 mod input;
 mod known;
+mod length;
 mod no_word;
+mod others;
 
 pub use code::Code;
 pub use no_word::NoWord;

@@ -3,7 +3,7 @@ pub mod Stages
 mod StagesInWords
 mod StagesOfLists
 mod StagesOfWords
-mod WordBits
+pub mod WordBits
 pub mod WordLaws
 pub mod Words
 pub mod WordsWithin

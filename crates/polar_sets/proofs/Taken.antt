@@ -1,7 +1,7 @@
 -- The information positions taken one after the other, from the last entry of the table on.
-use Rattle.std.proofs.Common.{ℕ, ◌≡◌, ◌+◌, ◌-◌, ◌<◌, suc, Bool, true, false, ◌||◌, List, [], ◌∷◌, drop, length, get_or}
+use Rattle.std.proofs.Common.{ℕ, ◌≡◌, ◌+◌, ◌-◌, ◌<◌, ◌≤◌, zero, suc, Bool, true, false, ◌||◌, List, [], ◌∷◌, drop, length, get_or}
 use Rattle.std.proofs.Common.{replicate, set, inl, inr, refl, ap, subst, sym, ◌∙◌, arith, length-set, get_or-set_same}
-use Rattle.std.proofs.Common.{get_or-set_other}
+use Rattle.std.proofs.Common.{add-one, get_or-set_other}
 use Rattle.std.specs.Prelude.{◌==◌}
 use Rattle.std.specs.List.{filter}
 use Rattle.std.proofs.lemmas.Bool.{cases_lt}
@@ -149,14 +149,22 @@ taken_none table n k e h =
       rest = ap (λ (xs : List ℕ). k + length xs) none ∙ omega arith;
     }
 
--- the flags of all entries
-pub taken_all : (table : List ℕ) (n k e other from : ℕ) (flags : List Bool) (left : ℕ) → n ≡ other → from ≡ 0
+-- where all are taken, or no entry is left, the flags are those of all entries
+pub taken_done : (table : List ℕ) (n k e from : ℕ) (flags : List Bool) (left : ℕ) → from ≤ length table → (0 < from → left ≡ 0)
+    → IsTaken table n k e from flags left → IsTaken table n k e 0 flags left
+taken_done table n k e zero flags left l done t = t
+taken_done table n k e (suc from) flags left l done t =
+    let none : left ≡ 0 = done (omega arith) in
+    let before : IsTaken table n k e (from + 1) flags left =
+    subst (λ (i : ℕ). IsTaken table n k e i flags left) (sym (add-one from)) t in
+    taken_done table n k e from flags left (omega (arith, l)) (λ h. none)
+    (taken_full table n k e from (get_or table from 0) flags left (omega (arith, l)) refl none before)
+
+-- the flags of information positions
+pub taken_all : (table : List ℕ) (n k e from : ℕ) (flags : List Bool) (left : ℕ) → from ≤ length table → (0 < from → left ≡ 0)
     → IsTaken table n k e from flags left →
-    (p : ℕ) → bit_of flags p ≡ is_in (information table other k e) p
-taken_all table n k e other from flags left same none t p =
-    t.taken p
-    ∙ ap (λ (i : ℕ). is_in (information (drop i table) n k e) p) none
-    ∙ ap (λ (m : ℕ). is_in (information table m k e) p) same
+    (p : ℕ) → bit_of flags p ≡ is_in (information table n k e) p
+taken_all table n k e from flags left l done t p = (taken_done table n k e from flags left l done t).taken p
 
 -- a test that agrees with one of information positions
 pub information_same : (n k e : ℕ) (test info : ℕ → Bool) → ((p : ℕ) → test p ≡ info p) → IsInformation n k e info

@@ -1,14 +1,13 @@
-use Rattle.std.proofs.Common.{ℕ, ◌≡◌, ◌<◌, ◌≤◌}
+use Rattle.std.proofs.Common.{ℕ, ◌≡◌, ◌≢◌, ◌<◌, false, length}
+use Rattle.std.specs.Prelude.{slice_index}
 use Rattle.bits_core.specs.Bits.{bit_of}
-use Rattle.list_facts.specs.Counting.{count_below}
-use Rattle.polar_sets.specs.InputOrder.{in_input_order}
-use Rattle.polar_chain.specs.CodeOfBlock.{laid}
+use Rattle.bits_core.specs.Row.{word_bit}
 use Rattle.polar_chain.proofs.input.lay.Given as goal
 
--- the positions so far are laid, with as many bits as they carry
-abbrev pub invariant-loop-at : goal.invariant-loop-at
-invariant-loop-at l = record {
-  behind : l.turn ≤ l.at;
-  turn_is : l.turn ≡ count_below l.at (bit_of l.positions);
-  laid_so_far : (i : ℕ) → i < l.at → bit_of l.word i ≡ laid (bit_of l.positions) (in_input_order l.order l.block) i;
+-- the bits so far are laid, and 0 stands at each other position
+abbrev pub invariant-loop-bit : goal.invariant-loop-bit
+invariant-loop-bit l = record {
+  len : length l.words ≡ 8;
+  laid_so_far : (bit : ℕ) → bit < l.bit → word_bit l.words (slice_index l.carriers bit) ≡ bit_of l.block bit;
+  others : (i : ℕ) → ((bit : ℕ) → bit < l.bit → slice_index l.carriers bit ≢ i) → word_bit l.words i ≡ false;
 }
