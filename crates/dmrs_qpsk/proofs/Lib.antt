@@ -4,6 +4,10 @@ pub mod RegNumbers
 pub mod ImagesOnGrid
 pub mod RegPoints
 pub mod PointsRead
+pub mod KeptBits
+pub mod Appends
+pub mod RegBits
+pub mod RegsRead
 pub mod Takes
 pub mod ReferencePairs
 pub mod ReferenceRows

@@ -6,25 +6,13 @@ use Rattle.coreset_map.specs.declared.places.Reg.{Reg}
 use Rattle.coreset_map.specs.DataPlaces.{is_reference}
 use Rattle.coreset_map.specs.RegOrder.{reg_at}
 use Rattle.dmrs_qpsk.specs.Modulation.{point_of}
-use Rattle.dmrs_qpsk.specs.PointsOnGrid.{data_rank, reference_rank, reg_point}
+use Rattle.dmrs_qpsk.specs.PointsOnGrid.{data_rank, reference_rank}
 use Rattle.dmrs_qpsk.specs.ReferencePoints.{reference}
 use Rattle.dmrs_qpsk.specs.Held.{Holds}
-use Rattle.dmrs_qpsk.specs.Taken.{IsPointTaken}
+use Rattle.dmrs_qpsk.specs.Taken.{HasPoint, ArePointsTaken, IsPointTaken}
 use Rattle.dmrs_qpsk.proofs.BlockPlaces.{IsData, data_is, data_rank_is, which_reference}
 use Rattle.dmrs_qpsk.proofs.ImagesOnGrid.{of_reg}
 use Rattle.dmrs_qpsk.proofs.RegPoints.{reference_there, data_there, kept_by, last_bits}
-
--- subcarrier k of REG j has the point of its bits, or its reference point
-abbrev pub HasPoint : GridValue → ℕ → ℕ → List Reg → List Bool → ℕ → ℕ → Type 0
-HasPoint grid first id regs bits j k =
-    let symbol = first + (reg_at regs j).symbol in
-    let block = (reg_at regs j).block in
-    point_at grid symbol (12 * block + k) ≡ reg_point grid.slot symbol id block bits j k
-
--- the first n places of the REGs are read, 12 a REG
-pub record ArePointsTaken (grid : GridValue) (first id : ℕ) (regs : List Reg) (bits : List Bool) (n : ℕ) : Type 0 where
-  pub size : length bits ≡ 18 * (n / 12) + 2 * data_rank (n % 12)
-  pub there : (m : ℕ) → m < n → HasPoint grid first id regs bits (m / 12) (m % 12)
 
 -- before the first place, none is read
 pub none_taken : (grid : GridValue) (first id : ℕ) (regs : List Reg) (bits : List Bool) → bits ≡ []

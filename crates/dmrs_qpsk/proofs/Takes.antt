@@ -20,7 +20,8 @@ use Rattle.dmrs_qpsk.specs.PointsOnGrid.{data_rank, reg_point, image_of}
 use Rattle.dmrs_qpsk.specs.Held.{Holds, IsFlawed, IsBad, IsFirstBad}
 use Rattle.dmrs_qpsk.proofs.BlockPlaces.{data_rank_back, is_data}
 use Rattle.dmrs_qpsk.proofs.ImagesOnGrid.{image_at, image_within}
-use Rattle.dmrs_qpsk.proofs.PointsRead.{HasPoint, ArePointsTaken, taken_at}
+use Rattle.dmrs_qpsk.specs.Taken.{HasPoint, ArePointsTaken}
+use Rattle.dmrs_qpsk.proofs.PointsRead.{taken_at}
 use Rattle.dmrs_qpsk.proofs.RegPoints.{reference_there, data_there}
 use Rattle.list_facts.proofs.Tests.{true_not_false}
 

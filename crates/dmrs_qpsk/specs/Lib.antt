@@ -6,3 +6,5 @@ pub mod Held
 pub mod Taken
 pub mod PointLaws
 pub mod Sequences
+pub mod KeptReferences
+pub mod WholeRegs

@@ -2,11 +2,15 @@
 #![tactic(auto)]
 
 pub mod laws;
+mod one_by_one;
+mod packing;
 mod placing;
 mod reference;
+mod references;
 mod sequences;
 mod taking;
 
 pub use placing::put_bits;
 pub use reference::reference_point;
-pub use taking::{BadPlace, Flaw, take_bits};
+pub use references::References;
+pub use taking::{BadPlace, Flaw, take_bits, take_bits_with};

@@ -1,8 +1,10 @@
 //! The points of a slot, each at its symbol and subcarrier.
-ghost use Rattle.std.specs.Prelude.{◌≡◌, ◌+◌, ◌*◌, ◌<◌, ◌≤◌, IfOk};
+ghost use Rattle.std.specs.Prelude.{◌≡◌, ◌+◌, ◌*◌, ◌<◌, ◌≤◌, ℕ, IfOk};
+ghost use Rattle.slot_grid.specs.Block.{point_in};
 ghost use Rattle.slot_grid.specs.Grid.{IsGrid, IsPut, point_at, slots_in_frame, with_point};
 ghost use Rattle.slot_grid.specs.Image.{blank_grid};
 
+use crate::words::{point_of_word, with_point};
 use bits_core::NoMemory;
 use std::alloc::Global;
 use std::marker::Model;
@@ -30,18 +32,19 @@ pub struct Grid {
     frame: u16,
     slot: u16,
     blocks: u16,
-    points: Vec<Point>,
+    /// A word for each symbol and block, symbol by symbol.
+    words: Vec<u64>,
 }
 
 impl Model for Grid {
-    ghost use Rattle.slot_grid.specs.Grid.{GridValue, IsGrid};
-    ghost use Rattle.slot_grid.specs.View.{grid_of};
+    ghost use Rattle.slot_grid.specs.Grid.{GridValue};
+    ghost use Rattle.slot_grid.specs.View.{grid_of, IsStored};
 
     ghost Value = { GridValue };
 
     ghost view = { grid_of };
 
-    ghost invariant = { λ g. IsGrid (grid_of g) };
+    ghost invariant = { IsStored };
 }
 
 impl Grid {
@@ -62,14 +65,14 @@ impl Grid {
         requires blocks_most { blocks ≤ 275 }
         ensures { IfOk result (λ g. g ≡ blank_grid mu frame slot blocks) }
     {
-        let size = SYMBOLS * (12 * blocks as usize);
-        match vec![in alloc; Point::Empty; size] {
-            Ok(points) => Ok(Grid {
+        let size = SYMBOLS * blocks as usize;
+        match vec![in alloc; 0; size] {
+            Ok(words) => Ok(Grid {
                 mu,
                 frame,
                 slot,
                 blocks,
-                points,
+                words,
             }),
             Err(_) => Err(NoMemory),
         }
@@ -114,7 +117,18 @@ impl Grid {
         requires subcarrier { subcarrier < 12 * self.now.blocks }
         ensures { result ≡ point_at self.now symbol subcarrier }
     {
-        self.points[place(self.blocks, symbol, subcarrier)]
+        let word = self.words[place(self.blocks, symbol, subcarrier / 12)];
+        point_of_word(word, u32::from(subcarrier % 12))
+    }
+
+    /// The points of block `block` in `symbol`, which is below 14, in one word: its bits `2 * k` and `2 * k + 1` are those of
+    /// the point at subcarrier `k` of the block, and its bit `24 + k` is 1 where there is a point.
+    pub fn block(&self, symbol: u8, block: u16) -> u64
+        requires symbol { symbol < 14 }
+        requires block { block < self.now.blocks }
+        ensures { (k : ℕ) → k < 12 → point_at self.now symbol (12 * block + k) ≡ point_in result k }
+    {
+        self.words[place(self.blocks, symbol, block)]
     }
 
     /// Writes the point at `symbol`, below 14, and `subcarrier`, below `12 * blocks`, and at no other place.
@@ -126,14 +140,14 @@ impl Grid {
         ensures grid { self.new ≡ with_point symbol subcarrier point self.old }
         ensures places { IsPut symbol subcarrier point self.old self.new }
     {
-        let place = place(self.blocks, symbol, subcarrier);
-        self.points[place] = point;
+        let place = place(self.blocks, symbol, subcarrier / 12);
+        self.words[place] = with_point(self.words[place], u32::from(subcarrier % 12), point);
     }
 }
 
-/// Where the point of a symbol and a subcarrier stands in the list of points.
-fn place(blocks: u16, symbol: u8, subcarrier: u16) -> usize
-    ensures { result ≡ symbol * (12 * blocks) + subcarrier }
+/// Where the word of a symbol and a block stands in the list of words.
+fn place(blocks: u16, symbol: u8, block: u16) -> usize
+    ensures { result ≡ symbol * blocks + block }
 {
-    symbol as usize * (12 * blocks as usize) + subcarrier as usize
+    symbol as usize * blocks as usize + block as usize
 }

@@ -1,38 +1,35 @@
-use Rattle.std.proofs.Common.{◌+◌, ◌*◌, ◌/◌, ap, arith}
+use Rattle.std.proofs.Common.{ℕ, ◌+◌, ◌*◌, Bool, List, [], refl, sym, subst, arith}
+use Rattle.gold_scrambler.specs.Gold.{gold}
+use Rattle.gold_scrambler.specs.Stretches.{HasBits}
 use Rattle.coreset_map.specs.RegOrder.{reg_at}
-use Rattle.dmrs_qpsk.proofs.PointsRead.{all_taken, none_taken, one_taken_more, room_left}
-use Rattle.dmrs_qpsk.proofs.Takes.{first_bad}
+use Rattle.dmrs_qpsk.specs.Held.{Holds}
+use Rattle.dmrs_qpsk.specs.ReferencePoints.{reference_start}
+use Rattle.dmrs_qpsk.proofs.PointsRead.{none_taken}
+use Rattle.dmrs_qpsk.proofs.RegsRead.{one_reg_more, reg_has_points, all_regs_read}
 use Rattle.dmrs_qpsk.proofs.taking.take_bits_core.Goals as goal
 
-pub returns-in-Err-clause-bad : goal.returns-in-Err-clause-bad
-returns-in-Err-clause-bad c =
+pub loop-j-init : goal.loop-j-init
+loop-j-init c =
     let a = c.args in
-    let l = c.loop-place in
-    first_bad a.grid.now a.first a.id a.regs.now l.bits l.place
-    (12 * (reg_at a.regs.now (l.place / 12)).block + c.from.result) c.in-Err.flaw
-    c.requires.regs c.loop-place-test.true l.invariant
-    (ap (λ k. 12 * (reg_at a.regs.now (l.place / 12)).block + k) c.from.ensures)
-    c.in-Err.ensures.flawed
+    none_taken a.grid.now a.first a.id a.regs.now [] refl
 
-pub loop-place-preserved : goal.loop-place-preserved
-loop-place-preserved c =
+pub loop-j-preserved : goal.loop-j-preserved
+loop-j-preserved c =
     let a = c.args in
-    let l = c.loop-place in
-    one_taken_more a.grid.now a.first a.id a.regs.now l.bits c.take_point.new.bits l.place l.invariant c.in_default.ensures.taken
+    let l = c.loop-j in
+    let reg = reg_at a.regs.now l.j in
+    let wanted = c.bits_of-wanted.result in
+    let of_slot : ℕ → Type 0 =
+    λ slot. HasBits (gold (reference_start slot (a.first + reg.symbol) a.id)) (6 * reg.block) 6 wanted
+    in
+    one_reg_more a.grid.now a.first a.id a.regs.now l.j l.words c.append.new.words l.invariant c.append.ensures.before
+    (reg_has_points a.grid.now a.first a.id a.regs.now l.j c.block.result wanted c.in-Some.packed c.append.new.words
+    c.block.ensures (subst of_slot c.slot-slot.ensures.value c.bits_of-wanted.ensures) c.in-Some.ensures c.append.ensures.behind)
 
 pub returns-clause-bits : goal.returns-clause-bits
 returns-clause-bits c =
     let a = c.args in
-    let l = c.loop-place in
-    all_taken a.grid.now a.first a.id a.regs.now l.bits l.place (omega arith) l.invariant
-
-pub loop-place-init : goal.loop-place-init
-loop-place-init c =
-    let a = c.args in
-    none_taken a.grid.now a.first a.id a.regs.now c.new-bits.result c.new-bits.ensures
-
-pub take_point-requires-clause-room : goal.take_point-requires-clause-room
-take_point-requires-clause-room c =
-    let a = c.args in
-    let l = c.loop-place in
-    room_left a.grid.now a.first a.id a.regs.now l.bits l.place l.invariant c.loop-place-test.true c.requires.few
+    let l = c.loop-j in
+    let holds : List Bool → Type 0 = Holds a.grid.now a.first a.id a.regs.now in
+    subst holds (sym c.of_words-2.ensures)
+    (all_regs_read a.grid.now a.first a.id a.regs.now l.j l.words (omega (arith, c.loop-j-test.false, l.auto.j-end)) l.invariant)

@@ -1,10 +1,11 @@
 use Rattle.std.proofs.Common.{List, subst}
 use Rattle.coreset_map.specs.declared.places.Reg.{Reg}
 use Rattle.dmrs_qpsk.proofs.Takes.{IsTaken, is_taken, bits_exactly, bad_exactly}
-use Rattle.dmrs_qpsk.proofs.taking.take_bits.Goals as goal
+use Rattle.dmrs_qpsk.proofs.taking.take_bits_with.Goals as goal
 
 -- what was read of the list's REGs
-taken : (c : goal.After-take_bits_core) → IsTaken c.args.grid.now c.args.first c.args.id c.args.regs.now.items c.take_bits_core.result
+taken : (c : goal.After-take_bits_core)
+    → IsTaken c.args.grid.now c.args.first c.args.id c.args.regs.now.items c.take_bits_core.result
 taken c =
     let a = c.args in
     let result = c.take_bits_core.result in
