@@ -1,7 +1,7 @@
 -- An allotment, one set more.
 use Rattle.std.proofs.Common.{◌≡◌, ℕ, zero, suc, ◌+◌, ◌<◌, ◌≤◌, Bool, true, false, cond, Result, Ok, Err, IfOk, All}
 use Rattle.std.proofs.Common.{drop, inl, inr, nat_le, List, [], ◌∷◌, ◌++◌, length, take, get_or, count_by}
-use Rattle.std.proofs.Common.{sym, ◌∙◌, ap, subst, arith}
+use Rattle.std.proofs.Common.{refl, sym, ◌∙◌, ap, subst, arith}
 use Rattle.std.proofs.lemmas.List.{append_assoc, take_more, take-append-drop}
 use Rattle.std.proofs.lemmas.Bool.{leb-true, and_parts}
 use Rattle.arrayvec.specs.ArrayVec.{ArrayVec}
@@ -11,15 +11,14 @@ use Rattle.dci_fields.specs.declared.sizes.Sizes.{Sizes}
 use Rattle.monitor_budget.specs.declared.tally.Tally.{Tally}
 use Rattle.monitor_budget.specs.declared.allotment.Allotment.{Allotment}
 use Rattle.monitor_budget.specs.declared.allotment.CommonOver.{CommonOver}
-use Rattle.monitor_budget.specs.Counts.{candidate_count, different_cces, counted_of, cces_of}
-use Rattle.rrc_settings.specs.HandsetsOfCell.{set_at}
+use Rattle.monitor_budget.specs.Counts.{candidate_count, different_cces}
 use Rattle.monitor_budget.specs.Limits.{most_candidates, most_cces, are_within}
 use Rattle.monitor_budget.specs.Allotting.{common_sets, own_sets, longest_front, allotment_of, common_over, keep_limits}
 use Rattle.monitor_budget.specs.Allotting.{greatest, allotted}
-use Rattle.monitor_budget.specs.Tally.{mark_count, AddsCounted, AddsCces, Tallies}
+use Rattle.monitor_budget.specs.Tally.{mark_count, Tallies}
 use Rattle.list_facts.proofs.Members.{IsIn, in_append, append_left_in, at_in}
 use Rattle.monitor_budget.proofs.SearchOrder.{in_slot}
-use Rattle.monitor_budget.proofs.TallyCounts.{tallies_more, candidates_are, different_are}
+use Rattle.monitor_budget.proofs.TallyCounts.{candidates_are, different_are}
 
 -- both counts of a tally, as numbers
 pub record AreCounts (cell : RawCell) (h : Handset) (sizes : Sizes) (places : List ℕ) (candidates cces : ℕ) : Type 0 where
@@ -27,7 +26,8 @@ pub record AreCounts (cell : RawCell) (h : Handset) (sizes : Sizes) (places : Li
   pub cces_are : cces ≡ different_cces cell h sizes places
 
 -- the numbers that a tally tells are both counts
-pub are_counts : (cell : RawCell) (h : Handset) (sizes : Sizes) (places : List ℕ) (tally : Tally) (candidates cces : ℕ)
+pub are_counts : {room : ℕ} (cell : RawCell) (h : Handset) (sizes : Sizes) (places : List ℕ) (tally : Tally room)
+    (candidates cces : ℕ)
     → Tallies cell h sizes places tally
     → candidates ≡ length tally.seen.items → cces ≡ count_by (λ b. b) tally.marks → length tally.marks ≡ mark_count
     → AreCounts cell h sizes places candidates cces
@@ -64,7 +64,7 @@ limits_are cell h sizes places candidates cces b c e =
     ap (λ n. are_within cell.mu n (different_cces cell h sizes places)) (sym c.candidates_are)
     ∙ ap (λ m. are_within cell.mu candidates m) (sym c.cces_are) ∙ sym e
 
--- few were seen where the limits are kept
+-- no numerology allows more candidates
 most_below : (mu : ℕ) → most_candidates mu ≤ 44
 most_below zero = omega arith
 most_below (suc zero) = omega arith
@@ -72,17 +72,21 @@ most_below (suc (suc zero)) = omega arith
 most_below (suc (suc (suc zero))) = omega arith
 most_below (suc (suc (suc (suc n)))) = omega arith
 
--- few were seen where the limits are kept
-pub few_seen : (cell : RawCell) (h : Handset) (sizes : Sizes) (places : List ℕ) (tally : Tally)
-    → Tallies cell h sizes places tally
-    → keep_limits cell h sizes places ≡ true → length tally.seen.items ≤ 44
-few_seen cell h sizes places tally t k =
-    let e = candidates_are cell h sizes places tally t in
-    let n = candidate_count cell h sizes places in
-    let w = leb-true n (most_candidates cell.mu)
-    (and_parts (nat_le n (most_candidates cell.mu)) (nat_le (different_cces cell h sizes places) (most_cces cell.mu)) k).0 in
-    let m = most_below cell.mu in
-    omega (arith, e, w, m)
+-- so many candidates exceed the limit
+exceeds_cases : (mu candidates cces : ℕ) (b : Bool) → 44 < candidates → are_within mu candidates cces ≡ b → b ≡ false
+exceeds_cases mu candidates cces true l e =
+    absurd (let w = leb-true candidates (most_candidates mu)
+    (and_parts (nat_le candidates (most_candidates mu)) (nat_le cces (most_cces mu)) e).0 in
+    let m = most_below mu in
+    omega (arith, l, w, m))
+exceeds_cases mu candidates cces false l e = refl
+
+-- sets of more candidates than any limit allows do not keep it
+pub exceeds : (cell : RawCell) (h : Handset) (sizes : Sizes) (places : List ℕ) → 44 < candidate_count cell h sizes places
+    → keep_limits cell h sizes places ≡ false
+exceeds cell h sizes places l =
+    exceeds_cases cell.mu (candidate_count cell h sizes places) (different_cces cell h sizes places)
+    (keep_limits cell h sizes places) l refl
 
 -- the sets so far and one more
 pub front_more : (common own : List ℕ) (i : ℕ) → i < length own
@@ -90,16 +94,18 @@ pub front_more : (common own : List ℕ) (i : ℕ) → i < length own
 front_more common own i l =
     append_assoc common (take i own) (get_or own i 0 ∷ []) ∙ ap (λ xs. common ++ xs) (sym (take_more own i 0 l))
 
--- a tally of the sets so far counts one more
-pub front_tallied : (cell : RawCell) (h : Handset) (sizes : Sizes) (common own : List ℕ) (i : ℕ) (old new : Tally)
-    → i < length own
-    → Tallies cell h sizes (common ++ take i own) old
-    → AddsCounted old.seen.items new.seen.items (counted_of cell h sizes (set_at h (get_or own i 0)))
-    → AddsCces old.marks new.marks (cces_of cell h sizes (set_at h (get_or own i 0)))
-    → Tallies cell h sizes (common ++ take (i + 1) own) new
-front_tallied cell h sizes common own i old new l t a b =
-    subst (λ (xs : List ℕ). Tallies cell h sizes xs new) (front_more common own i l)
-    (tallies_more cell h sizes (common ++ take i own) (get_or own i 0) old new t a b)
+-- whether the sets so far and one more keep the limits
+pub front_keeps : (cell : RawCell) (h : Handset) (sizes : Sizes) (common own : List ℕ) (i : ℕ) (b : Bool) → i < length own
+    → b ≡ keep_limits cell h sizes ((common ++ take i own) ++ get_or own i 0 ∷ [])
+    → keep_limits cell h sizes (common ++ take (i + 1) own) ≡ b
+front_keeps cell h sizes common own i b l e =
+    sym (e ∙ ap (λ (xs : List ℕ). keep_limits cell h sizes xs) (front_more common own i l))
+
+-- whether the common sets do
+pub common_keep : (cell : RawCell) (h : Handset) (sizes : Sizes) (frame slot : ℕ) (places : List ℕ) (b : Bool)
+    → places ≡ common_sets cell h frame slot → b ≡ keep_limits cell h sizes places
+    → keep_limits cell h sizes (common_sets cell h frame slot) ≡ b
+common_keep cell h sizes frame slot places b e k = sym (k ∙ ap (λ (xs : List ℕ). keep_limits cell h sizes xs) e)
 
 -- the two answers
 pub allotted_over : (cell : RawCell) (h : Handset) (sizes : Sizes) (frame slot : ℕ)
@@ -125,23 +131,6 @@ allotted-fits cell h sizes frame slot k =
     ap (λ (b : Bool). cond b
     (Ok (allotment_of cell h sizes (common ++ longest_front cell h sizes common (own_sets cell h frame slot))))
     (Err (common_over cell h sizes common))) k
-
--- the common sets as the code counts them
-pub record AreCommon (cell : RawCell) (h : Handset) (sizes : Sizes) (frame slot candidates cces : ℕ) (within : Bool) : Type
-    0 where
-  pub counts : AreCounts cell h sizes (common_sets cell h frame slot) candidates cces
-  pub limits : keep_limits cell h sizes (common_sets cell h frame slot) ≡ within
-
--- what the code counts of the common sets
-pub are_common : (cell : RawCell) (h : Handset) (sizes : Sizes) (frame slot : ℕ) (places : List ℕ) (tally : Tally)
-    (candidates cces : ℕ) (within : Bool)
-    → places ≡ common_sets cell h frame slot → Tallies cell h sizes places tally
-    → candidates ≡ length tally.seen.items → cces ≡ count_by (λ b. b) tally.marks → length tally.marks ≡ mark_count
-    → within ≡ are_within cell.mu candidates cces → AreCommon cell h sizes frame slot candidates cces within
-are_common cell h sizes frame slot places tally candidates cces within e t n m l w =
-    let u = subst (λ (xs : List ℕ). Tallies cell h sizes xs tally) e t in
-    let c = are_counts cell h sizes (common_sets cell h frame slot) tally candidates cces u n m l in
-    record { counts = c; limits = limits_are cell h sizes (common_sets cell h frame slot) candidates cces within c w }
 
 -- the sets of an allotment are some of the handset's
 in_take : (x : ℕ) (n : ℕ) (xs : List ℕ) → IsIn x (take n xs) → IsIn x xs

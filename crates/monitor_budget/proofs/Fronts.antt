@@ -44,6 +44,13 @@ within_below mu a b c d h k w =
     let n = le-leb b (most_cces mu) (omega (arith, k, q)) in
     ap (λ t. t && nat_le b (most_cces mu)) m ∙ n
 
+-- no sets keep the limits
+pub keeps_none : (cell : RawCell) (h : Handset) (sizes : Sizes) → keep_limits cell h sizes [] ≡ true
+unfolding candidate_count all_counted different_cces all_cces
+keeps_none cell h sizes =
+    ap (λ t. t && nat_le 0 (most_cces cell.mu)) (le-leb 0 (most_candidates cell.mu) (omega arith))
+    ∙ le-leb 0 (most_cces cell.mu) (omega arith)
+
 -- a front of sets that keep the limits keeps them
 keeps_front : (cell : RawCell) (h : Handset) (sizes : Sizes) (xs ys : List ℕ) → keep_limits cell h sizes (xs ++ ys) ≡ true
     → keep_limits cell h sizes xs ≡ true
@@ -58,7 +65,8 @@ fails_cases cell h sizes xs ys true e f =
     absurd (let t = keeps_front cell h sizes xs ys e in let z : true ≡ false = sym t ∙ f in cc)
 fails_cases cell h sizes xs ys false e f = refl
 
-fails_front : (cell : RawCell) (h : Handset) (sizes : Sizes) (xs ys : List ℕ) → keep_limits cell h sizes xs ≡ false
+-- and one that does not keep them fails with more
+pub fails_front : (cell : RawCell) (h : Handset) (sizes : Sizes) (xs ys : List ℕ) → keep_limits cell h sizes xs ≡ false
     → keep_limits cell h sizes (xs ++ ys) ≡ false
 fails_front cell h sizes xs ys f = fails_cases cell h sizes xs ys (keep_limits cell h sizes (xs ++ ys)) refl f
 

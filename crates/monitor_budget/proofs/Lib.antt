@@ -6,6 +6,7 @@ pub mod SearchOrder
 pub mod FinalCounts
 pub mod Placed
 pub mod Adding
+pub mod SymbolCounts
 pub mod Distinct
 pub mod FewCandidates
 pub mod Spaces

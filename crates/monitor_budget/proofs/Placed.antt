@@ -7,7 +7,8 @@ use Rattle.rrc_settings.specs.declared.settings.SearchSet.{SearchSet}
 use Rattle.rrc_settings.specs.AggregationLevels.{level_at, is_level}
 use Rattle.rrc_settings.specs.BitSets.{has_bit}
 use Rattle.search_starts.specs.Starts.{start_of}
-use Rattle.list_facts.proofs.Members.{IsIn, in_map, in_range, in_flat_map, in_filter, at_in}
+use Rattle.list_facts.proofs.Members.{IsIn, in_map, in_range, in_flat_map, in_filter, at_in, flat_map_in, filter_in}
+use Rattle.list_facts.proofs.Members.{range_in}
 use Rattle.monitor_budget.specs.declared.candidates.Candidate.{Candidate}
 use Rattle.monitor_budget.specs.SetCandidates.{symbols_of, candidate_at, numbered_candidates, level_candidates}
 use Rattle.monitor_budget.specs.SetCandidates.{symbol_candidates, set_candidates, AreAsked, IsPlaced}
@@ -99,3 +100,14 @@ is_placed cces sizes s c asked h =
 pub all_placed : (cces : ℕ) (sizes : List ℕ) (s : SearchSet) → AreAsked cces s.candidates
     → All (IsPlaced cces s) (set_candidates cces sizes s)
 all_placed cces sizes s asked k d l = is_placed cces sizes s _ asked (at_in (set_candidates cces sizes s) k d l)
+
+-- the same, of those at a symbol
+pub symbol_placed : (cces : ℕ) (sizes : List ℕ) (s : SearchSet) (symbol : ℕ) → AreAsked cces s.candidates → symbol < 14
+    → has_bit s.symbols symbol ≡ true
+    → All (IsPlaced cces s) (symbol_candidates cces sizes s symbol)
+unfolding set_candidates
+symbol_placed cces sizes s symbol asked l b k d m =
+    is_placed cces sizes s _ asked
+    (flat_map_in (symbol_candidates cces sizes s) symbol _ (symbols_of s)
+    (filter_in (has_bit s.symbols) symbol (range_with_len 0 14) (range_in symbol 0 14 (omega arith) (omega (arith, l))) b)
+    (at_in (symbol_candidates cces sizes s symbol) k d m))

@@ -65,6 +65,10 @@ symbol_candidates cces sizes s symbol = flat_map (level_candidates cces sizes s 
 unfoldable pub set_candidates : ℕ → List ℕ → SearchSet → List Candidate
 set_candidates cces sizes s = flat_map (symbol_candidates cces sizes s) (symbols_of s)
 
+-- those of the symbols among some at which the set begins
+abbrev pub candidates_among : ℕ → List ℕ → SearchSet → List ℕ → List Candidate
+candidates_among cces sizes s symbols = flat_map (symbol_candidates cces sizes s) (filter (has_bit s.symbols) symbols)
+
 -- a set asks for at most eight candidates at each level, and for none at a level above the number of CCEs
 abbrev pub AreAsked : ℕ → List ℕ → Type 0
 AreAsked cces candidates =

@@ -1,5 +1,6 @@
 -- What counting leaves: the candidates that were seen, each once, and a mark for each CCE.
-use Rattle.std.specs.Prelude.{◌≡◌, ℕ, ◌+◌, ◌*◌, ◌<◌, ◌≤◌, Bool, true, false, replicate, [], ◌||◌, List, slice_index_or, All}
+use Rattle.std.specs.Prelude.{◌≡◌, ℕ, ◌+◌, ◌*◌, ◌<◌, ◌≤◌, Bool, true, false, replicate, [], ◌++◌, ◌||◌, List, All}
+use Rattle.std.specs.Prelude.{length, slice_index_or}
 use Rattle.std.specs.List.{IsDistinct}
 use Rattle.std.specs.Set.{is_member}
 use Rattle.monitor_budget.specs.declared.counted.Counted.{Counted}
@@ -41,12 +42,20 @@ pub record AddsCounted (old new : List Counted) (more : List Counted) : Type 0 w
   pub distinct : IsDistinct count_as_one old → IsDistinct count_as_one new
   pub members : (q : Counted) → is_member count_as_one new q ≡ (is_member count_as_one old q || is_member count_as_one more q)
 
+-- so many of the first of some candidates were added that a room is full
+pub record FillsRoom (room : ℕ) (old new : List Counted) (more : List Counted) : Type 0 where
+  pub front : List Counted
+  pub rest : List Counted
+  pub are : more ≡ front ++ rest
+  pub counted : AddsCounted old new front
+  pub full : room ≤ length new
+
 -- some CCEs, which have marks, were marked
 pub record AddsCces (old new : List Bool) (more : List Cce) : Type 0 where
   pub known : (q : Cce) → is_member are_one_cce more q ≡ true → HasMark q
   pub marked : (q : Cce) → HasMark q → is_marked new q ≡ (is_marked old q || is_member are_one_cce more q)
 
 -- a tally counts the candidates of the sets at some places, and their CCEs
-pub record Tallies (cell : RawCell) (h : Handset) (sizes : Sizes) (places : List ℕ) (tally : Tally) : Type 0 where
+pub record Tallies {room : ℕ} (cell : RawCell) (h : Handset) (sizes : Sizes) (places : List ℕ) (tally : Tally room) : Type 0 where
   pub counted : AddsCounted [] tally.seen.items (all_counted cell h sizes places)
   pub cces : AddsCces (replicate mark_count false) tally.marks (all_cces cell h sizes places)

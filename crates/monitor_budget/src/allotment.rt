@@ -1,14 +1,14 @@
 //! Which sets a handset looks at in a slot (3GPP TS 38.213, 10.1).
-ghost use Rattle.std.specs.Prelude.{◌≡◌, ◌+◌, ◌*◌, ◌^◌, ◌<◌, ◌≤◌, ◌++◌, [], true, false, All, IfOk, length, replicate};
-ghost use Rattle.rrc_settings.specs.HandsetsOfCell.{handset_at, set_at};
+ghost use Rattle.std.specs.Prelude.{◌≡◌, ◌+◌, ◌*◌, ◌^◌, ◌<◌, ◌≤◌, ◌++◌, true, All, IfOk, length};
+ghost use Rattle.rrc_settings.specs.HandsetsOfCell.{handset_at};
 ghost use Rattle.rrc_settings.specs.LegalCell.{IsLegalHandset};
-ghost use Rattle.monitor_budget.specs.Counts.{cces_of, counted_of};
-ghost use Rattle.monitor_budget.specs.Tally.{mark_count, AddsCces, AddsCounted, Tallies};
+ghost use Rattle.monitor_budget.specs.Tally.{Tallies};
 ghost use Rattle.monitor_budget.specs.Allotting.{allotment_of, allotted, keep_limits, longest_front};
 
 use crate::calendar::sets_in_slot;
-use crate::limits::keep_limits;
-use crate::space::{Space, handset_in};
+use crate::counting::{keep_together, keeps_with};
+use crate::exceeding::common_over;
+use crate::space::handset_in;
 use crate::tally::Tally;
 use arrayvec::ArrayVec;
 use dci_fields::Sizes;
@@ -71,11 +71,8 @@ fn allot_core(
     let common = sets_in_slot(cell, handset, true, frame, slot);
     let own = sets_in_slot(cell, handset, false, frame, slot);
     let mut tally = Tally::new();
-    count_sets(&mut tally, cell, handset, sizes, common.as_slice());
-    let candidates = tally.candidates();
-    let cces = tally.cces();
-    if !keep_limits(cell, candidates, cces) {
-        return Err(CommonOver { candidates, cces });
+    if !keep_together(&mut tally, cell, handset, sizes, common.as_slice()) {
+        return Err(common_over(cell, handset, sizes, common.as_slice()));
     }
     Ok(with_own(&mut tally, cell, handset, sizes, common, own.as_slice()))
 }
@@ -83,7 +80,7 @@ fn allot_core(
 /// The common sets, and the longest front of the handset's own sets that keeps both limits with them. The tally counts
 /// the common sets, which keep the limits.
 fn with_own(
-    tally: &mut Tally,
+    tally: &mut Tally<64>,
     cell: &Cell,
     handset: &Handset,
     sizes: &Sizes,
@@ -104,45 +101,12 @@ fn with_own(
         cces: tally.cces(),
     };
     for place in own {
-        count_set(tally, cell, handset, sizes, *place);
-        let candidates = tally.candidates();
-        let cces = tally.cces();
-        if !keep_limits(cell, candidates, cces) {
+        if !keeps_with(tally, cell, handset, sizes, *place) {
             return allotment;
         }
         allotment.sets.push(*place);
-        allotment.candidates = candidates;
-        allotment.cces = cces;
+        allotment.candidates = tally.candidates();
+        allotment.cces = tally.cces();
     }
     allotment
-}
-
-/// Counts the sets at some places, where nothing was counted before.
-fn count_sets(tally: &mut Tally, cell: &Cell, handset: &Handset, sizes: &Sizes, places: &[u16])
-    requires legal { IsLegalHandset cell.now handset.now }
-    requires few { length places.now ≤ 10 }
-    requires places { All (λ place. place < length handset.now.sets.items) places.now }
-    requires seen { tally.old.seen.items ≡ [] }
-    requires marks { tally.old.marks ≡ replicate mark_count false }
-    ensures { Tallies cell.now handset.now sizes.now places.now tally.new }
-{
-    for place in places {
-        count_set(tally, cell, handset, sizes, *place);
-    }
-}
-
-/// Counts the set at a place.
-#[tactic(auto, unfolding(crate::specs::Counts::counted_of, crate::specs::Counts::cces_of))]
-fn count_set(tally: &mut Tally, cell: &Cell, handset: &Handset, sizes: &Sizes, place: u16)
-    requires legal { IsLegalHandset cell.now handset.now }
-    requires place { place < length handset.now.sets.items }
-    requires room { length tally.old.seen.items + 1120 ≤ 11200 }
-    ensures counted { AddsCounted tally.old.seen.items tally.new.seen.items
-        (counted_of cell.now handset.now sizes.now (set_at handset.now place)) }
-    ensures cces { AddsCces tally.old.marks tally.new.marks (cces_of cell.now handset.now sizes.now (set_at handset.now place)) }
-    ensures few { length tally.new.seen.items ≤ length tally.old.seen.items + 1120 }
-{
-    let space = Space::of(cell, handset, &handset.sets[usize::from(place)]);
-    let candidates = space.candidates(sizes);
-    tally.add(&space.set, space.scramble(), candidates.as_slice());
 }

@@ -42,14 +42,14 @@ pub(crate) fn push_set(
 }
 
 /// Appends the candidates of a set that begin at a symbol.
-fn push_symbol(
-    out: &mut ArrayVec<Candidate, 1120>,
+pub(crate) fn push_symbol<const N: usize>(
+    out: &mut ArrayVec<Candidate, N>,
     cces: u16,
     sizes: &[u16],
     set: &SearchSet,
     symbol: u8,
 )
-    requires room { length out.old.items + 80 ≤ 1120 }
+    requires room { length out.old.items + 80 ≤ N }
     requires sizes { length sizes.now ≤ 2 }
     requires asked { AreAsked cces set.now.candidates }
     ensures items { out.new.items ≡ out.old.items ++ symbol_candidates cces sizes.now set.now symbol }
@@ -61,8 +61,8 @@ fn push_symbol(
 }
 
 /// Appends the candidates of a set that begin at a symbol, at one level.
-fn push_level(
-    out: &mut ArrayVec<Candidate, 1120>,
+fn push_level<const N: usize>(
+    out: &mut ArrayVec<Candidate, N>,
     cces: u16,
     sizes: &[u16],
     set: &SearchSet,
@@ -70,7 +70,7 @@ fn push_level(
     i: usize,
 )
     requires level { i < 5 }
-    requires room { length out.old.items + 16 ≤ 1120 }
+    requires room { length out.old.items + 16 ≤ N }
     requires sizes { length sizes.now ≤ 2 }
     requires asked { AreAsked cces set.now.candidates }
     ensures items { out.new.items ≡ out.old.items ++ level_candidates cces sizes.now set.now symbol i }
@@ -98,8 +98,8 @@ fn push_level(
 }
 
 /// Appends a candidate at each size.
-fn push_sizes(out: &mut ArrayVec<Candidate, 1120>, candidate: Candidate, sizes: &[u16])
-    requires { length out.old.items + length sizes.now ≤ 1120 }
+fn push_sizes<const N: usize>(out: &mut ArrayVec<Candidate, N>, candidate: Candidate, sizes: &[u16])
+    requires { length out.old.items + length sizes.now ≤ N }
     ensures items { out.new.items ≡ out.old.items ++ map (sized candidate) sizes.now }
     ensures length { length out.new.items ≡ length out.old.items + length sizes.now }
 {

@@ -4,6 +4,7 @@ ghost use Rattle.std.specs.Prelude.{slice_set, count_by};
 ghost use Rattle.monitor_budget.specs.Counts.{Cce, cces_from};
 ghost use Rattle.monitor_budget.specs.Tally.{mark_count, mark_of, marks_each, AddsCces};
 
+use bits_core::BitRow;
 use std::marker::Model;
 
 /// How many CCEs of a CORESET have marks: as many as a CORESET has at most.
@@ -12,21 +13,25 @@ const EACH: usize = 192;
 /// How many marks there are: for each number of a CORESET, 0 to 11, and each of 14 symbols.
 const MARKS: usize = 12 * 14 * EACH;
 
-/// A mark for each CCE that may count, seen as the list of them.
+/// How many words of 64 marks.
+const WORDS: usize = MARKS / 64;
+
+/// A mark for each CCE that may count, seen as the list of them: a bit each, and how many are set.
 #[derive(Drop)]
 pub(crate) struct Marks {
-    marks: [bool; MARKS],
+    marks: BitRow<WORDS>,
     count: u16,
 }
 
 impl Model for Marks {
-    ghost use Rattle.std.specs.Prelude.{◌≡◌, List, Bool, count_by};
+    ghost use Rattle.std.specs.Prelude.{◌≡◌, List, Bool, count_by, length};
+    ghost use Rattle.monitor_budget.specs.declared.marks.TheConstants.{MARKS};
 
     ghost Value = { List Bool };
 
     ghost view = { λ m. m.marks };
 
-    ghost invariant = { λ m. m.count ≡ count_by (λ b. b) m.marks };
+    ghost invariant = { λ m. (m.count ≡ count_by (λ b. b) m.marks) × (length m.marks ≡ MARKS) };
 }
 
 impl Marks {
@@ -35,7 +40,7 @@ impl Marks {
         ensures { result ≡ replicate mark_count false }
     {
         Marks {
-            marks: [false; MARKS],
+            marks: BitRow::of_words([0; WORDS], MARKS),
             count: 0,
         }
     }
@@ -55,8 +60,8 @@ impl Marks {
         ensures there { slice_index_or self.new at false ≡ true }
         ensures others { (i : ℕ) → i ≢ at → slice_index_or self.new i false ≡ slice_index_or self.old i false }
     {
-        if !self.marks[at] {
-            self.marks[at] = true;
+        if !self.marks.get(at) {
+            self.marks.set(at, true);
             self.count += 1;
         }
     }

@@ -1,15 +1,16 @@
 //! A search space set of a handset, with all that its search needs.
-ghost use Rattle.std.specs.Prelude.{◌≡◌, ◌^◌, ◌<◌, ◌≤◌, All, IsSome, Some, length};
+ghost use Rattle.std.specs.Prelude.{◌≡◌, ◌^◌, ◌<◌, ◌≤◌, All, IsSome, Some, length, true};
+ghost use Rattle.rrc_settings.specs.BitSets.{has_bit};
 ghost use Rattle.rrc_settings.specs.HandsetsOfCell.{coreset_numbered, handset_at};
 ghost use Rattle.coreset_map.specs.ControlResources.{cce_count};
 ghost use Rattle.rrc_settings.specs.Legal.{IsLegal};
 ghost use Rattle.rrc_settings.specs.LegalCell.{IsLegalHandset, IsLegalSearchSet};
 ghost use Rattle.monitor_budget.specs.Scrambling.{scrambling_start};
-ghost use Rattle.monitor_budget.specs.SetCandidates.{IsPlaced, set_candidates, sizes_in};
+ghost use Rattle.monitor_budget.specs.SetCandidates.{IsPlaced, set_candidates, sizes_in, symbol_candidates};
 ghost use Rattle.monitor_budget.specs.Spaces.{space_of, IsSpace};
 
 use crate::Candidate;
-use crate::candidates::push_set;
+use crate::candidates::{push_set, push_symbol};
 use crate::scrambling::scrambling_start;
 use crate::sizes::sizes_in;
 use arrayvec::ArrayVec;
@@ -64,6 +65,28 @@ impl Space {
         let sizes = sizes_in(sizes, self.set.kind);
         let mut out = ArrayVec::new();
         push_set(&mut out, cces, sizes.as_slice(), &self.set);
+        out
+    }
+
+    /// Those of the set's candidates that begin at a symbol, one of the set's. `cces` is how many CCEs its CORESET has, and
+    /// `sizes` are those that the set monitors.
+    pub(crate) fn candidates_at(
+        &self,
+        cces: u16,
+        sizes: &[u16],
+        symbol: u8,
+    ) -> ArrayVec<Candidate, 80>
+        requires legal { IsSpace self.now }
+        requires cces { cces ≡ cce_count self.now.resources }
+        requires sizes { length sizes.now ≤ 2 }
+        requires symbol { symbol < 14 }
+        requires begins { has_bit self.now.set.symbols symbol ≡ true }
+        ensures items { result.items ≡ symbol_candidates cces sizes.now self.now.set symbol }
+        ensures few { length result.items ≤ 80 }
+        ensures placed { All (IsPlaced cces self.now.set) result.items }
+    {
+        let mut out = ArrayVec::new();
+        push_symbol(&mut out, cces, sizes, &self.set, symbol);
         out
     }
 

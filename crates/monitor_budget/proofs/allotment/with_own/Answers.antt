@@ -1,10 +1,10 @@
-use Rattle.std.proofs.Common.{◌≡◌, ℕ, ◌+◌, List, ◌++◌, ◌∷◌, [], true, take, get_or, sym, ap, ◌∙◌, subst, arith}
+use Rattle.std.proofs.Common.{◌≡◌, ℕ, ◌+◌, List, ◌++◌, ◌∷◌, [], true, take, get_or, sym, ap, ◌∙◌, subst}
 use Rattle.std.proofs.lemmas.List.{append-nil}
 use Rattle.monitor_budget.specs.declared.allotment.Allotment.{Allotment}
 use Rattle.monitor_budget.specs.Tally.{Tallies}
 use Rattle.monitor_budget.specs.Allotting.{allotment_of, keep_limits}
 use Rattle.monitor_budget.proofs.Fronts.{front_all, front_stops}
-use Rattle.monitor_budget.proofs.Allotments.{are_counts, allotment_made, limits_are, few_seen, front_more, front_tallied}
+use Rattle.monitor_budget.proofs.Allotments.{are_counts, allotment_made, front_more, front_keeps}
 use Rattle.monitor_budget.proofs.allotment.with_own.Goals as goal
 
 pub loop-place-init : goal.loop-place-init
@@ -22,32 +22,20 @@ loop-place-init c =
       within = subst (λ (xs : List ℕ). keep_limits c.args.cell.now h c.args.sizes.now xs ≡ true) n c.requires.within;
     }
 
-pub count_set-requires-clause-room : goal.count_set-requires-clause-room
-count_set-requires-clause-room c =
-    let l = c.loop-place in
-    let few = few_seen c.args.cell.now c.args.handset.now c.args.sizes.now
-    (c.args.common.items ++ take l.place-index c.args.own.now) l.tally l.invariant.tally l.invariant.within in
-    omega (arith, few)
-
-pub returns-then-not-keep_limits : goal.returns-then-not-keep_limits
-returns-then-not-keep_limits c =
+pub returns-then-not-keeps_with : goal.returns-then-not-keeps_with
+returns-then-not-keeps_with c =
     let cell = c.args.cell.now in
     let h = c.args.handset.now in
     let sizes = c.args.sizes.now in
     let l = c.loop-place in
-    let i = l.place-index in
     let common = c.args.common.items in
     let own = c.args.own.now in
-    let t = front_tallied cell h sizes common own i l.tally c.count_set.new.tally c.loop-place-test.true l.invariant.tally
-    c.count_set.ensures.counted c.count_set.ensures.cces in
-    let n = are_counts cell h sizes (common ++ take (i + 1) own) c.count_set.new.tally c.candidates-candidates.result
-    c.cces-cces.result t
-    c.candidates-candidates.ensures c.cces-cces.ensures.value c.cces-cces.ensures.size in
-    let fails = limits_are cell h sizes (common ++ take (i + 1) own) c.candidates-candidates.result c.cces-cces.result
-    c.keep_limits.result n c.keep_limits.ensures ∙ c.if-not-keep_limits.true in
+    let kept = front_keeps cell h sizes common own l.place-index c.keeps_with.result c.loop-place-test.true
+    (c.keeps_with.ensures.limits (common ++ take l.place-index own) l.invariant.tally) ∙ c.if-not-keeps_with.true in
     l.invariant.allotment
     ∙ ap (λ xs. allotment_of cell h sizes (common ++ xs))
-    (sym (front_stops cell h sizes common own i c.loop-place-test.true l.invariant.within fails))
+    (sym (front_stops cell h sizes common own l.place-index c.loop-place-test.true l.invariant.within
+    kept))
 
 pub loop-place-preserved : goal.loop-place-preserved
 loop-place-preserved c =
@@ -59,20 +47,19 @@ loop-place-preserved c =
     let common = c.args.common.items in
     let own = c.args.own.now in
     let places = common ++ take (i + 1) own in
-    let t = front_tallied cell h sizes common own i l.tally c.count_set.new.tally c.loop-place-test.true l.invariant.tally
-    c.count_set.ensures.counted c.count_set.ensures.cces in
-    let n = are_counts cell h sizes places c.count_set.new.tally c.candidates-candidates.result c.cces-cces.result t
-    c.candidates-candidates.ensures c.cces-cces.ensures.value c.cces-cces.ensures.size in
+    let t = subst (λ (xs : List ℕ). Tallies cell h sizes xs c.keeps_with.new.tally)
+    (front_more common own i c.loop-place-test.true)
+    (c.keeps_with.ensures.tally (common ++ take i own) l.invariant.tally c.if-not-keeps_with.false) in
     record {
-      allotment = allotment_made cell h sizes places c.push.new.self c.candidates-candidates.result c.cces-cces.result
+      allotment = allotment_made cell h sizes places c.push.new.self c.candidates-in-loop-place.result c.cces-in-loop-place.result
           (c.push.ensures.items
           ∙ ap (λ (a : Allotment). a.sets.items ++ get_or own i 0 ∷ []) l.invariant.allotment
           ∙ front_more common own i c.loop-place-test.true)
-          n;
+          (are_counts cell h sizes places c.keeps_with.new.tally c.candidates-in-loop-place.result c.cces-in-loop-place.result t
+          c.candidates-in-loop-place.ensures c.cces-in-loop-place.ensures.value c.cces-in-loop-place.ensures.size);
       tally = t;
-      within =
-          limits_are cell h sizes places c.candidates-candidates.result c.cces-cces.result c.keep_limits.result n
-          c.keep_limits.ensures ∙ c.if-not-keep_limits.false;
+      within = front_keeps cell h sizes common own i c.keeps_with.result c.loop-place-test.true
+          (c.keeps_with.ensures.limits (common ++ take i own) l.invariant.tally) ∙ c.if-not-keeps_with.false;
     }
 
 pub returns : goal.returns

@@ -5,16 +5,16 @@ use Rattle.monitor_budget.specs.contracts.counted.CountedPartialEq.TheImpl as co
 use Rattle.monitor_budget.proofs.Adding.{found_seen, see-new, see_old}
 use Rattle.monitor_budget.proofs.tally.see.Goals as goal
 
-pub returns-then-not-contains-clause-counted : goal.returns-then-not-contains-clause-counted
-returns-then-not-contains-clause-counted c =
+pub returns-then-contains-clause-counted : goal.returns-then-contains-clause-counted
+returns-then-contains-clause-counted g c =
     let x = c.args.counted in
     let found = found_seen c.args.seen.now.items x c.contains.result
     (c.contains.ensures.value ∙ ap (λ (xs : List Counted). list_any (λ y. counted.ghosts.eq y x) xs) c.as_slice.ensures.value) in
-    see-new c.args.seen.now.items c.push.new.self.items x (found ∙ c.if-not-contains.true) c.push.ensures.items
+    λ _. see_old c.args.seen.now.items x (found ∙ c.if-contains.true)
 
-pub returns-else-not-contains-clause-counted : goal.returns-else-not-contains-clause-counted
-returns-else-not-contains-clause-counted c =
+pub returns-clause-counted : goal.returns-clause-counted
+returns-clause-counted g c =
     let x = c.args.counted in
     let found = found_seen c.args.seen.now.items x c.contains.result
     (c.contains.ensures.value ∙ ap (λ (xs : List Counted). list_any (λ y. counted.ghosts.eq y x) xs) c.as_slice.ensures.value) in
-    see_old c.args.seen.now.items x (found ∙ c.if-not-contains.false)
+    λ _. see-new c.args.seen.now.items c.push.new.self.items x (found ∙ c.if-contains.false) c.push.ensures.items

@@ -1,6 +1,6 @@
 use Rattle.std.proofs.Common.{◌*◌, ◌≤◌, length, take}
 use Rattle.monitor_budget.specs.Tally.{Tallies}
-use Rattle.monitor_budget.proofs.allotment.count_sets.Given as goal
+use Rattle.monitor_budget.proofs.exceeding.count_sets.Given as goal
 
 abbrev pub invariant-loop-place : goal.invariant-loop-place
 invariant-loop-place l = record {
