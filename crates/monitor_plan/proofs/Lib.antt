@@ -1,5 +1,6 @@
 pub mod SetFits
 pub mod WatchParts
+pub mod MonitoredSets
 pub mod Plans
 pub mod SoundWatches
 pub mod SharedRegs

@@ -57,7 +57,7 @@ pub(crate) fn copy_of(list: &FieldList) -> FieldList
 }
 
 /// Whether a kind of set is for the formats of fallback.
-fn is_for_fallback(kind: SetKind) -> bool
+pub(crate) fn is_for_fallback(kind: SetKind) -> bool
     ensures { result ≡ is_for_fallback kind }
 {
     kind != SetKind::Specific

@@ -4,11 +4,14 @@
 
 mod formats;
 pub mod laws;
+mod monitored;
+mod outline;
 mod plan;
 mod same;
 mod set_formats;
 mod set_watches;
 mod watch;
 
+pub use outline::Outline;
 pub use plan::{Plan, PlanFault};
 pub use watch::Watch;

@@ -94,3 +94,13 @@ pub(crate) fn fields_at(format: &Option<SizedList>, size: u16) -> Option<FieldLi
         None => None,
     }
 }
+
+/// Whether the size is the format's.
+pub(crate) fn has_fields_at(format: &Option<SizedList>, size: u16) -> bool
+    ensures { result ≡ is_some (fields_at format.now size) }
+{
+    match format {
+        Some(format) => format.size == size,
+        None => false,
+    }
+}

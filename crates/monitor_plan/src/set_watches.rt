@@ -39,7 +39,7 @@ pub(crate) fn push_set(
 }
 
 /// The watch of a candidate of a set whose formats have these fields.
-fn watch_of(space: &Space, formats: &SetFormats, candidate: &Candidate) -> Watch
+pub(crate) fn watch_of(space: &Space, formats: &SetFormats, candidate: &Candidate) -> Watch
     requires level { candidate.now.level ≤ 16 }
     requires cces { candidate.now.start + candidate.now.level ≤ cce_count space.now.resources }
     ensures { result ≡ watch_in space.now formats.now candidate.now }

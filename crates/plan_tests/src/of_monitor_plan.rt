@@ -1,5 +1,8 @@
 //! Plans that are known.
-use monitor_plan::{Plan, PlanFault, Watch};
+ghost use Rattle.std.specs.Prelude.{◌<◌, length};
+
+use dci_fields::Format;
+use monitor_plan::{Outline, Plan, PlanFault, Watch};
 use rrc_settings::Cell;
 use std::alloc::Global;
 use std::process::Abort;
@@ -153,5 +156,72 @@ fn a_large_plan_has_each_watch(rt: HostRuntime) -> Result<(), Fail> {
     for (i, watch) in plan.watches().iter().enumerate() {
         assert!(rt; is_large_line(watch, i), "watch {i}");
     }
+    Ok(())
+}
+
+const FORMATS: [Format; 5] = [
+    Format::F00,
+    Format::F10,
+    Format::Order,
+    Format::F01,
+    Format::F11,
+];
+
+/// Whether an outline tells of the watch at a place what it is, and has it there.
+fn has_watch(outline: &Outline, at: usize, watch: &Watch) -> bool
+    requires { at < length outline.now }
+{
+    outline.watch(at) == *watch
+        && outline.set(at) == watch.set
+        && outline.symbol(at) == watch.symbol
+        && outline.level(at) == watch.level
+        && outline.candidate(at) == watch.candidate
+        && FORMATS
+            .iter()
+            .all(|format| outline.fits(at, *format) == watch.fits(*format))
+}
+
+/// Whether the outline of the cell's first handset in slot 0 of frame 0 has each watch of its plan.
+fn is_outlined(rt: &impl Abort, alloc: Global, cell: &Cell) -> bool
+    requires { 0 < length cell.now.handsets }
+{
+    let plan = Plan::of(alloc, cell, 0, 0, 0).ok().expect(rt, "a plan");
+    let outline = Outline::of(alloc, cell, 0, 0, 0)
+        .ok()
+        .expect(rt, "an outline");
+    if outline.len() != plan.watches().len() {
+        return false;
+    }
+    for (at, watch) in plan.watches().iter().enumerate() {
+        if !has_watch(&outline, at, watch) {
+            return false;
+        }
+    }
+    true
+}
+
+#[test]
+fn an_outline_has_the_watches_of_the_plan(rt: HostRuntime) -> Result<(), Fail> {
+    for (draft, _) in PLANS {
+        let cell = draft.cell(rt.alloc())?;
+        assert!(rt; is_outlined(&rt, rt.alloc(), &cell));
+    }
+    let cell = Cell::checked(large_cell(rt.alloc(), 1)?)?;
+    assert!(rt; cell.raw().handsets.as_slice().len() == 1);
+    assert!(rt; is_outlined(&rt, rt.alloc(), &cell));
+    Ok(())
+}
+
+#[test]
+fn an_outline_tells_that_common_sets_exceed_a_limit(rt: HostRuntime) -> Result<(), Fail> {
+    let cell = OVER.cell(rt.alloc())?;
+    let fault = Outline::of(rt.alloc(), &cell, 0, 0, 0).err();
+    assert!(rt;
+        fault
+            == Some(PlanFault::CommonOver {
+                candidates: 21,
+                cces: 16
+            })
+    );
     Ok(())
 }
