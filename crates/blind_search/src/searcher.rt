@@ -53,15 +53,21 @@ impl Searcher {
         ensures report { result.now ≡ report_of tables.now grid.now self.old.plan }
         ensures within { AreOfWatches self.old.plan result.now }
     {
-        self.heard.clear();
         let mut codes = Codes::new();
-        push_heard(
-            &mut self.heard,
-            &mut codes,
-            tables,
-            grid,
-            self.plan.watches(),
-        );
+        self.search_with(&mut codes, tables, grid)
+    }
+
+    /// As `search`, with the codes that earlier searches by these tables have made: none is made again while it is kept.
+    pub fn search_with(&mut self, codes: &mut Codes, tables: &Tables, grid: &Grid) -> &[Heard]
+        requires inside { All (IsInside grid.now.blocks) self.old.plan }
+        requires codes { AreOf tables.now codes.old }
+        ensures* kept { sem 𝓛 (KeepsReport self.entry result) }
+        ensures report { result.now ≡ report_of tables.now grid.now self.old.plan }
+        ensures within { AreOfWatches self.old.plan result.now }
+        ensures codes { AreOf tables.now codes.new }
+    {
+        self.heard.clear();
+        push_heard(&mut self.heard, codes, tables, grid, self.plan.watches());
         self.found()
     }
 
@@ -98,6 +104,7 @@ fn push_heard(
     ensures report { heard.new.items ≡ report_of tables.now grid.now watches.now }
     ensures within { AreOfWatches watches.now heard.new.items }
     ensures room { vec_capacity heard.old ≤ vec_capacity heard.new }
+    ensures codes { AreOf tables.now codes.new }
 {
     for (number, watch) in watches.iter().enumerate() {
         push_heard_at(heard, codes, tables, grid, watch, number as u32);

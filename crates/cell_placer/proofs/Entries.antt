@@ -4,7 +4,7 @@ use Rattle.std.proofs.Math.Seq.{take-append_seam}
 use Rattle.std.proofs.lemmas.List.{get_or_default}
 use Rattle.coreset_map.specs.declared.places.Reg.{Reg}
 use Rattle.monitor_plan.specs.declared.watch.Watch.{Watch}
-use Rattle.monitor_plan.specs.Watch.{no_watch}
+use Rattle.monitor_plan.specs.Watch.{watch_at}
 use Rattle.cell_placer.specs.declared.member.Member.{Member}
 use Rattle.cell_placer.specs.declared.member.Accepted.{Accepted}
 use Rattle.cell_placer.specs.Ledger.{LedgerValue, no_member, member_at, watch_of, IsLedger}
@@ -18,22 +18,19 @@ pub member_is : (members : List Member) (h : ℕ) (m : Member) → h < length me
     → m ≡ member_at members h
 member_is members h m l e = e ∙ get_or_default members h m no_member l
 
--- a watch is found for an entry: among the watches of the handset at the entry's place
+-- a watch is found for an entry: that of the handset at the entry's place
 pub record IsFoundFor (members : List Member) (a : Accepted) (w : Watch) : Type 0 where
   pub member : Member
-  pub watches : List Watch
   pub member_is : member ≡ get_or members a.handset member
-  pub watches_are : watches ≡ member.plan
-  pub watch_is : w ≡ get_or watches a.watch w
+  pub watch_is : w ≡ watch_at member.plan a.watch
 
 -- it is the entry's
 pub watch_found : {ledger : LedgerValue} {a : Accepted} {w : Watch} → IsSpot ledger a → IsFoundFor ledger.members a w
     → w ≡ watch_of ledger.members a
 watch_found {ledger} {a} {w} spot found =
-    let m = member_at ledger.members a.handset in
-    let same : found.watches ≡ m.plan = found.watches_are
-    ∙ ap (λ (x : Member). x.plan) (member_is ledger.members a.handset found.member spot.handset found.member_is) in
-    found.watch_is ∙ ap (λ (x : List Watch). get_or x a.watch w) same ∙ get_or_default m.plan a.watch w no_watch spot.watch
+    found.watch_is
+    ∙ ap (λ (x : Member). watch_at x.plan a.watch)
+    (member_is ledger.members a.handset found.member spot.handset found.member_is)
 
 -- a table was written for an entry: that of the owners before it, where the call owns the REGs of its watch
 pub record IsOwnedBy (ledger : LedgerValue) (a : Accepted) (owners after : List (Option ℕ)) : Type 0 where

@@ -1,8 +1,7 @@
 -- What is known of the watches of a handset that suit a grant.
-use Rattle.std.proofs.Common.{◌≡◌, ℕ, ◌<◌, true, ◌&&◌, List, Some, length, get_or, sym, subst, ◌∙◌}
+use Rattle.std.proofs.Common.{◌≡◌, ℕ, ◌<◌, true, ◌&&◌, List, Some, length}
 use Rattle.std.specs.Prelude.{◌==◌, position}
 use Rattle.std.proofs.lemmas.Bool.{and_parts, eqb-true}
-use Rattle.std.proofs.lemmas.List.{get_or_default}
 use Rattle.std.proofs.lemmas.List.Quantifiers.{position-Some}
 use Rattle.monitor_plan.specs.declared.watch.Watch.{Watch}
 use Rattle.monitor_plan.specs.Watch.{fits, no_watch, watch_at}
@@ -28,12 +27,3 @@ pub first_suits : (grant : Grant) (watches : List Watch) (k : ℕ) → position 
 first_suits grant watches k e =
     let found = position-Some (is_suitable grant) watches k no_watch e in
     (found.0, suits grant (watch_at watches k) found.1)
-
--- the format fits the watch that is found at its place
-pub first_fits : (grant : Grant) (watches : List Watch) (k : ℕ) (w : Watch) → position (is_suitable grant) watches ≡ Some k
-    → w ≡ get_or watches k w
-    → fits w grant.format ≡ true
-first_fits grant watches k w e f =
-    let found = first_suits grant watches k e in
-    let P : Watch → Type 0 = λ x. fits x grant.format ≡ true in
-    subst P (sym (f ∙ get_or_default watches k w no_watch found.0)) found.1.fitting

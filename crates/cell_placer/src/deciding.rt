@@ -1,7 +1,7 @@
 //! What is decided of a grant.
 ghost use Rattle.std.specs.Prelude.{◌≡◌, ◌&&◌, ◌<◌, All, IfOk, length, position, Some, true};
 ghost use Rattle.dci_fields.specs.FirstFieldFault.{field_fault};
-ghost use Rattle.monitor_plan.specs.Watch.{fits, list_of, IsInside, IsSound};
+ghost use Rattle.monitor_plan.specs.Watch.{fits, list_of, watch_at, IsInside, IsSound};
 ghost use Rattle.cell_placer.specs.Ready.{IsReady};
 ghost use Rattle.cell_placer.specs.Suitable.{is_suitable};
 ghost use Rattle.cell_placer.specs.Fate.{by_fault, by_free, by_room, by_handset, decided, is_free};
@@ -12,7 +12,7 @@ use crate::member::Accepted;
 use crate::suitable::{first_suitable, handset_of, is_suitable};
 use dci_fields::{FieldFault, pack};
 use grant_file::Grant;
-use monitor_plan::Watch;
+use monitor_plan::{Outline, Watch};
 
 /// How a grant is accepted, or the first cause against it.
 #[tactic(auto, unfolding(crate::specs::Fate::decided))]
@@ -35,34 +35,32 @@ fn decided_in(ledger: &Ledger, grant: &Grant, handset: usize) -> Result<Accepted
     if !member.sets.as_slice().contains(&grant.set) {
         return Err(Refusal::UnknownSet);
     }
-    let watches = member.plan.watches();
-    match first_suitable(watches, grant) {
+    match first_suitable(&member.plan, grant) {
         None => Err(Refusal::Unmonitored),
-        Some(first) => decided_among(ledger, grant, handset, watches, &watches[first]),
+        Some(first) => decided_among(ledger, grant, handset, &member.plan, first),
     }
 }
 
-/// The same by the watches of the handset and the first suitable one.
+/// The same by the plan of the handset and the place of its first suitable watch.
 fn decided_among(
     ledger: &Ledger,
     grant: &Grant,
     handset: usize,
-    watches: &[Watch],
-    first: &Watch,
+    plan: &Outline,
+    first: usize,
 ) -> Result<Accepted, Refusal>
-    requires all_inside { All (IsInside ledger.now.blocks) watches.now }
-    requires sound { IsSound first.now }
-    requires inside { IsInside ledger.now.blocks first.now }
-    requires fitting { fits first.now grant.now.format ≡ true }
-    ensures { result ≡ by_fault ledger.now grant.now handset watches.now first.now
-        (field_fault (list_of first.now grant.now.format) grant.now.format grant.now.given) }
+    requires inside { All (IsInside ledger.now.blocks) plan.now }
+    requires first { first < length plan.now }
+    requires fitting { fits (watch_at plan.now first) grant.now.format ≡ true }
+    ensures { result ≡ let watch = watch_at plan.now first in by_fault ledger.now grant.now handset plan.now watch
+        (field_fault (list_of watch grant.now.format) grant.now.format grant.now.given) }
 {
-    if let Some(fault) = fault_of(first, grant) {
+    if let Some(fault) = fault_of(&plan.watch(first), grant) {
         return Err(Refusal::Field(fault));
     }
-    match first_free(ledger, watches, grant) {
+    match first_free(ledger, plan, grant) {
         None => Err(Refusal::Overlap {
-            earlier: ledger.first_meeting(first).unwrap_or(0),
+            earlier: ledger.first_meeting(plan, first).unwrap_or(0),
         }),
         Some(watch) => decided_at(ledger, handset, watch),
     }
@@ -99,22 +97,23 @@ fn fault_of(watch: &Watch, grant: &Grant) -> Option<FieldFault>
 }
 
 /// The place of the first suitable watch that is free.
-fn first_free(ledger: &Ledger, watches: &[Watch], grant: &Grant) -> Option<usize>
-    requires { All (IsInside ledger.now.blocks) watches.now }
-    ensures { result ≡ position (λ w. is_suitable grant.now w && is_free ledger.now w) watches.now }
+fn first_free(ledger: &Ledger, plan: &Outline, grant: &Grant) -> Option<usize>
+    requires { All (IsInside ledger.now.blocks) plan.now }
+    ensures { result ≡ position (λ w. is_suitable grant.now w && is_free ledger.now w) plan.now }
 {
-    for (at, watch) in watches.iter().enumerate() {
-        if is_open(ledger, watch, grant) {
+    for at in 0..plan.len() {
+        if is_open(ledger, plan, at, grant) {
             return Some(at);
         }
     }
     None
 }
 
-/// Whether the watch is suitable and free.
-fn is_open(ledger: &Ledger, watch: &Watch, grant: &Grant) -> bool
-    requires { IsInside ledger.now.blocks watch.now }
-    ensures { result ≡ (is_suitable grant.now watch.now && is_free ledger.now watch.now) }
+/// Whether the watch at a place is suitable and free.
+fn is_open(ledger: &Ledger, plan: &Outline, at: usize, grant: &Grant) -> bool
+    requires at { at < length plan.now }
+    requires inside { All (IsInside ledger.now.blocks) plan.now }
+    ensures { result ≡ (is_suitable grant.now (watch_at plan.now at) && is_free ledger.now (watch_at plan.now at)) }
 {
-    is_suitable(grant, watch) && ledger.first_meeting(watch).is_none()
+    is_suitable(plan, at, grant) && ledger.first_meeting(plan, at).is_none()
 }

@@ -3,6 +3,7 @@ ghost use Rattle.std.specs.Prelude.{◌≡◌, ◌+◌, ◌-◌, ◌*◌, ◌<�
 ghost use Rattle.slot_grid.specs.Image.{overwritten};
 ghost use Rattle.dci_fields.specs.FirstFieldFault.{field_fault};
 ghost use Rattle.monitor_plan.specs.Watch.{fits, list_of, IsInside, IsSound};
+ghost use Rattle.dci_codec.specs.KnownCodes.{AreOf};
 ghost use Rattle.cell_placer.specs.Fate.{fate};
 ghost use Rattle.cell_placer.specs.Opened.{opened, slot_over};
 ghost use Rattle.cell_placer.specs.OpeningFaults.{Tells};
@@ -12,7 +13,7 @@ use crate::deciding::decided;
 use crate::ledger::Ledger;
 use crate::opening::members_of;
 use crate::{DeskFault, Placed, Refusal};
-use dci_codec::spell;
+use dci_codec::{Codes, spell_with};
 use grant_file::Grant;
 use monitor_plan::Watch;
 use rrc_settings::Cell;
@@ -66,10 +67,27 @@ impl Desk {
         ensures fate { result ≡ fate self.old.ledger grant.now }
         ensures step { self.new ≡ step tables.now self.old grant.now }
     {
+        let mut codes = Codes::new();
+        self.place_with(&mut codes, tables, grant)
+    }
+
+    /// As `place`, with the codes that earlier grants by these tables needed: none is made again while it is kept.
+    pub fn place_with(
+        &mut self,
+        codes: &mut Codes,
+        tables: &Tables,
+        grant: &Grant,
+    ) -> Result<Placed, Refusal>
+        requires calls { self.old.ledger.calls < 2 ^ 32 - 1 }
+        requires codes { AreOf tables.now codes.old }
+        ensures fate { result ≡ fate self.old.ledger grant.now }
+        ensures step { self.new ≡ step tables.now self.old grant.now }
+        ensures codes { AreOf tables.now codes.new }
+    {
         match decided(&self.ledger, grant) {
             Ok(entry) => {
                 let watch = self.ledger.watch_of(entry);
-                write(tables, watch, grant, &mut self.grid);
+                write(codes, tables, &watch, grant, &mut self.grid);
                 self.ledger.accept(entry);
                 Ok(Placed {
                     watch: entry.watch as u32,
@@ -124,16 +142,19 @@ fn open_core(
     Ok(Desk { ledger, grid })
 }
 
-/// Writes a grant at a watch.
-fn write(tables: &Tables, watch: &Watch, grant: &Grant, grid: &mut Grid)
+/// Writes a grant at a watch. `codes` are those that earlier grants needed.
+fn write(codes: &mut Codes, tables: &Tables, watch: &Watch, grant: &Grant, grid: &mut Grid)
     requires sound { IsSound watch.now }
     requires inside { IsInside grid.old.blocks watch.now }
     requires fitting { fits watch.now grant.now.format ≡ true }
     requires faultless { field_fault (list_of watch.now grant.now.format) grant.now.format grant.now.given ≡ None }
+    requires codes { AreOf tables.now codes.old }
     ensures grid { grid.new ≡ overwritten (grant_image tables.now grid.old.slot watch.now grant.now) grid.old }
     ensures blocks { grid.new.blocks ≡ grid.old.blocks }
+    ensures codes { AreOf tables.now codes.new }
 {
-    match spell(tables, watch, grant.format, grant.given.as_slice(), grid) {
+    let given = grant.given.as_slice();
+    match spell_with(codes, tables, watch, grant.format, given, grid) {
         Ok(()) => {}
         Err(_) => unreachable!(),
     }

@@ -1,13 +1,13 @@
 //! What a desk knows beside its grid.
 ghost use Rattle.std.specs.Prelude.{◌≡◌, ◌+◌, ◌<◌, ◌≤◌, ◌^◌, [], ◌∷◌, ◌++◌, All, IfOk, nat_lt, length};
-ghost use Rattle.monitor_plan.specs.Watch.{IsInside};
+ghost use Rattle.monitor_plan.specs.Watch.{watch_at, IsInside};
 ghost use Rattle.cell_placer.specs.Ledger.{IsLedger, IsMember, watch_of};
 ghost use Rattle.cell_placer.specs.Fate.{first_meeting};
 ghost use Rattle.cell_placer.specs.Ready.{IsSpot};
 
 use crate::member::{Accepted, Member};
 use crate::owners::{least_owner, own};
-use monitor_plan::Watch;
+use monitor_plan::{Outline, Watch};
 use std::alloc::{AllocError, Global};
 use std::marker::Model;
 
@@ -89,25 +89,26 @@ impl Ledger {
         self.calls
     }
 
-    /// The call of the first accepted grant that has a REG of the watch.
-    pub fn first_meeting(&self, watch: &Watch) -> Option<u32>
-        requires { IsInside self.now.blocks watch.now }
-        ensures { result ≡ first_meeting self.now.members self.now.accepted watch.now }
+    /// The call of the first accepted grant that has a REG of the watch at a place of a plan.
+    pub fn first_meeting(&self, plan: &Outline, at: usize) -> Option<u32>
+        requires at { at < length plan.now }
+        requires inside { All (IsInside self.now.blocks) plan.now }
+        ensures { result ≡ first_meeting self.now.members self.now.accepted (watch_at plan.now at) }
     {
         least_owner(
             self.owners.as_slice(),
             self.blocks,
-            watch.symbol,
-            watch.regs.as_slice(),
+            plan.symbol(at),
+            plan.regs(at).as_slice(),
         )
     }
 
     /// The watch of an entry.
-    pub fn watch_of(&self, entry: Accepted) -> &Watch
+    pub fn watch_of(&self, entry: Accepted) -> Watch
         requires { IsSpot self.now entry }
-        ensures { result.now ≡ watch_of self.now.members entry }
+        ensures { result ≡ watch_of self.now.members entry }
     {
-        &self.members[entry.handset].plan.watches()[entry.watch]
+        self.members[entry.handset].plan.watch(entry.watch)
     }
 
     /// Counts a call that was refused.
@@ -124,7 +125,7 @@ impl Ledger {
         requires calls { self.old.calls + 1 < 2 ^ 32 }
         ensures { self.new ≡ record self.old { calls = self.old.calls + 1; accepted = self.old.accepted ++ entry ∷ [] } }
     {
-        let watch = &self.members[entry.handset].plan.watches()[entry.watch];
+        let watch = self.members[entry.handset].plan.watch(entry.watch);
         own(
             &mut self.owners,
             self.blocks,

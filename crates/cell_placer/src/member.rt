@@ -1,6 +1,6 @@
 //! What a desk knows of a handset.
 use arrayvec::ArrayVec;
-use monitor_plan::Plan;
+use monitor_plan::Outline;
 use rrc_settings::Name;
 
 /// A handset in one slot.
@@ -11,7 +11,7 @@ pub struct Member {
     /// The numbers of its search space sets.
     pub sets: ArrayVec<u16, 10>,
     /// Where it looks in the slot.
-    pub plan: Plan,
+    pub plan: Outline,
 }
 
 /// A grant that was accepted.

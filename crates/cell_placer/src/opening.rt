@@ -12,7 +12,7 @@ use crate::DeskFault;
 use crate::member::Member;
 use arrayvec::ArrayVec;
 use monitor_budget::allot;
-use monitor_plan::Plan;
+use monitor_plan::Outline;
 use rrc_settings::{Cell, Name, SearchSet};
 use size_alignment::sizes;
 use std::alloc::Global;
@@ -34,7 +34,7 @@ pub(crate) fn members_of(
 {
     let mut members = Vec::new(alloc);
     for handset in 0..count_of(cell) {
-        let Ok(plan) = Plan::of(alloc, cell, handset, frame, slot) else {
+        let Ok(plan) = Outline::of(alloc, cell, handset, frame, slot) else {
             return Err(fault_from(cell, handset, frame, slot));
         };
         match members.push(member_of(cell, handset, frame, slot, plan)) {
@@ -74,14 +74,14 @@ fn count_of(cell: &Cell) -> usize
 }
 
 /// The handset at a place of the cell's list with its plan in a slot.
-fn member_of(cell: &Cell, handset: usize, frame: u16, slot: u16, plan: Plan) -> Member
+fn member_of(cell: &Cell, handset: usize, frame: u16, slot: u16, plan: Outline) -> Member
     requires handset { handset < length cell.now.handsets }
     requires planned { planned cell.now handset frame slot ≡ Ok plan }
     requires inside { All (IsInside cell.now.blocks) plan }
     ensures { IsMade cell.now handset frame slot result }
 {
     let settings = &cell.raw().handsets.as_slice()[handset];
-    let _watches = plan.watches();
+    let _count = plan.len();
     Member {
         name: copy_of(&settings.name),
         sets: numbers_of(settings.sets.as_slice()),

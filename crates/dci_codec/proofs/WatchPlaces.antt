@@ -17,8 +17,8 @@ use Rattle.dmrs_qpsk.specs.Held.{Holds, IsFirstBad, IsFlawed}
 use Rattle.dmrs_qpsk.specs.Modulation.{point_of}
 use Rattle.dmrs_qpsk.specs.ReferencePoints.{reference}
 use Rattle.dmrs_qpsk.specs.PointsOnGrid.{reference_rank}
-use Rattle.dmrs_qpsk.specs.Taken.{IsPointTaken}
-use Rattle.dmrs_qpsk.proofs.PointsRead.{ArePointsTaken, all_taken, none_taken, one_taken_more}
+use Rattle.dmrs_qpsk.specs.Taken.{ArePointsTaken, IsPointTaken}
+use Rattle.dmrs_qpsk.proofs.PointsRead.{all_taken, none_taken, one_taken_more}
 use Rattle.dmrs_qpsk.proofs.Takes.{first_bad as first_flawed}
 use Rattle.monitor_plan.specs.declared.watch.Watch.{Watch}
 use Rattle.monitor_plan.specs.Watch.{IsCarrying}

@@ -1,19 +1,22 @@
-//! The codes of a search, each kept for the watches that come next.
+//! The codes by two tables, each kept for the watches that come next.
 ghost use Rattle.std.specs.Prelude.{◌≡◌, ◌↔◌, true, IsTrue, Some, is_some};
 ghost use Rattle.monitor_plan.specs.Watch.{IsCarrying};
 ghost use Rattle.table_files.specs.declared.tables.Tables.{Tables};
 ghost use Rattle.dci_codec.specs.KnownCodes.{AreOf, IsAt, IsThereFor};
 
 use crate::coding::code_at;
+use dmrs_qpsk::References;
 use monitor_plan::Watch;
 use polar_chain::Code;
 use table_files::Tables;
 
-/// The codes of the two kinds of watch that came last: a set has two sizes at most, which take turns.
+/// The codes of the two kinds of watch that came last: a set has two sizes at most, which take turns. It also keeps the
+/// reference bits of each symbol of the slot that is heard.
 #[derive(Debug, Drop)]
 pub struct Codes {
     last: Option<Code>,
     before: Option<Code>,
+    pub(crate) references: References,
 }
 
 impl Codes {
@@ -24,6 +27,7 @@ impl Codes {
         Codes {
             last: None,
             before: None,
+            references: References::new(),
         }
     }
 

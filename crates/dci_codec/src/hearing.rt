@@ -17,7 +17,7 @@ use crate::{Codes, Heard, Silence};
 use bits_core::Payload;
 use crc_mask::strip;
 use dci_fields::{Format, Values, unpack};
-use dmrs_qpsk::take_bits;
+use dmrs_qpsk::take_bits_with;
 use monitor_plan::Watch;
 use polar_chain::NoWord;
 use slot_grid::Grid;
@@ -103,7 +103,8 @@ fn hear_payload(
     ensures answer { IsPayloadAnswer tables.now grid.now watch.now result }
     ensures codes { AreOf tables.now codes.new }
 {
-    let bits = match take_bits(grid, watch.symbol, &watch.regs, watch.dmrs_id) {
+    let references = &mut codes.references;
+    let bits = match take_bits_with(references, grid, watch.symbol, &watch.regs, watch.dmrs_id) {
         Ok(bits) => scramble(&bits, watch.scramble),
         Err(bad) => return Err(Silence::Spot(bad)),
     };

@@ -15,4 +15,4 @@ pub use codes::Codes;
 pub use heard::Heard;
 pub use hearing::{hear, hear_with};
 pub use silence::Silence;
-pub use spelling::spell;
+pub use spelling::{spell, spell_with};

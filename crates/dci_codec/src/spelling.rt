@@ -6,9 +6,10 @@ ghost use Rattle.dci_fields.specs.GivenValues.{IsFieldFault};
 ghost use Rattle.monitor_plan.specs.Watch.{fits, list_of, IsCarrying, IsInside, IsSound};
 ghost use Rattle.slot_grid.specs.Image.{overwritten};
 ghost use Rattle.dci_codec.specs.BlockImage.{block_image};
+ghost use Rattle.dci_codec.specs.KnownCodes.{AreOf};
 ghost use Rattle.dci_codec.specs.Spelled.{IsSpelled};
 
-use crate::coding::code_at;
+use crate::Codes;
 use crate::scrambling::scramble;
 use bits_core::Payload;
 use crc_mask::attach;
@@ -35,24 +36,54 @@ pub fn spell(
     ensures refused { OnErr result (grid.new ≡ grid.old) }
     ensures spelled { OnOk result (IsSpelled tables.now watch.now format given.now grid.old grid.new) }
 {
+    let mut codes = Codes::new();
+    spell_with(&mut codes, tables, watch, format, given, grid)
+}
+
+/// As `spell`, with the codes that spelling and hearing by these tables have made so far: none is made again while it is kept.
+pub fn spell_with(
+    codes: &mut Codes,
+    tables: &Tables,
+    watch: &Watch,
+    format: Format,
+    given: &[Given],
+    grid: &mut Grid,
+) -> Result<(), FieldFault>
+    requires sound { IsSound watch.now }
+    requires inside { IsInside grid.old.blocks watch.now }
+    requires fitting { fits watch.now format ≡ true }
+    requires codes { AreOf tables.now codes.old }
+    ensures fault { (fault : FieldFault) → (result ≡ Err fault) ↔ IsFieldFault (list_of watch.now format) format given.now fault }
+    ensures refused { OnErr result (grid.new ≡ grid.old) }
+    ensures spelled { OnOk result (IsSpelled tables.now watch.now format given.now grid.old grid.new) }
+    ensures codes { AreOf tables.now codes.new }
+{
     let payload = pack(&watch.list(format), format, given, usize::from(watch.size))?;
-    put_payload(tables, watch, &payload, grid);
+    put_payload(codes, tables, watch, &payload, grid);
     Ok(())
 }
 
 /// Writes a payload of the watch's size: with its parity, masked by the watch's RNTI, coded, scrambled and modulated, beside
 /// the reference points.
-pub fn put_payload(tables: &Tables, watch: &Watch, payload: &Payload, grid: &mut Grid)
+pub fn put_payload(
+    codes: &mut Codes,
+    tables: &Tables,
+    watch: &Watch,
+    payload: &Payload,
+    grid: &mut Grid,
+)
     requires carrying { IsCarrying watch.now }
     requires inside { IsInside grid.old.blocks watch.now }
     requires size { length payload.now ≡ watch.now.size }
+    requires codes { AreOf tables.now codes.old }
     ensures written { grid.new ≡ overwritten (block_image tables.now grid.old.slot watch.now
         (masked payload.now watch.now.rnti)) grid.old }
     ensures slot { grid.new.slot ≡ grid.old.slot }
     ensures blocks { grid.new.blocks ≡ grid.old.blocks }
+    ensures codes { AreOf tables.now codes.new }
 {
     let block = attach(payload, watch.rnti);
-    let code = code_at(tables, watch);
-    let bits = scramble(&code.encode(&block), watch.scramble);
+    codes.turn_to(tables, watch);
+    let bits = scramble(&codes.last().encode(&block), watch.scramble);
     put_bits(grid, watch.symbol, &watch.regs, watch.dmrs_id, &bits);
 }

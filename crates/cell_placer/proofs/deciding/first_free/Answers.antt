@@ -8,4 +8,4 @@ use Rattle.cell_placer.proofs.deciding.first_free.Goals as goal
 
 pub loop-at-init : goal.loop-at-init
 loop-at-init c =
-    sym (position_from-zero (λ (w : Watch). is_suitable c.args.grant.now w && is_free c.args.ledger.now w) c.args.watches.now)
+    sym (position_from-zero (λ (w : Watch). is_suitable c.args.grant.now w && is_free c.args.ledger.now w) c.args.plan.now)

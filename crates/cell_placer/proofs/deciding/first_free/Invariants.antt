@@ -8,5 +8,5 @@ use Rattle.cell_placer.proofs.deciding.first_free.Given as goal
 
 abbrev pub invariant-loop-at : goal.invariant-loop-at
 invariant-loop-at l =
-    position_from (λ (w : Watch). is_suitable l.grant w && is_free l.ledger w) l.at (drop l.at l.watches)
-    ≡ position (λ (w : Watch). is_suitable l.grant w && is_free l.ledger w) l.watches
+    position_from (λ (w : Watch). is_suitable l.grant w && is_free l.ledger w) l.at (drop l.at l.plan)
+    ≡ position (λ (w : Watch). is_suitable l.grant w && is_free l.ledger w) l.plan

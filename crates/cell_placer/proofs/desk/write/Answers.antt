@@ -10,7 +10,7 @@ use Rattle.cell_placer.proofs.desk.write.Goals as goal
 pub unreachable-requires : goal.unreachable-requires
 unreachable-requires c =
     let format = c.args.grant.now.format in
-    no_fault (list_of c.args.watch.now format) format c.in-Err.field-0 c.requires.faultless c.as_slice.ensures
+    no_fault (list_of c.args.watch.now format) format c.in-Err.field-0 c.requires.faultless c.as_slice-given.ensures
     ((c.in-Err.ensures.fault c.in-Err.field-0).0 refl)
 
 pub returns-clause-blocks : goal.returns-clause-blocks

@@ -13,19 +13,14 @@ invariant_of-self c =
     let a = c.args.entry in
     let kept = c.self.invariant in
     let spot : IsSpot l a = subst (λ (v : LedgerValue). IsSpot v a) (sym c.self.view_is) c.requires.spot in
-    let found : IsFoundFor l.members a c.index-watches-entry.result = record {
-      member = c.index.result.now;
-      watches = c.watches.result.now;
-      member_is = c.index.ensures;
-      watches_are = c.watches.ensures.value;
-      watch_is = c.index-watches-entry.is;
-    } in
+    let found : IsFoundFor l.members a c.watch-watch.result =
+    record { member = c.index.result.now; member_is = c.index.ensures; watch_is = c.watch-watch.ensures.value } in
     let P : List Accepted → Type 0 =
     λ x. IsLedger (record { blocks = l.blocks; members = l.members; room = l.room; calls = l.calls + 1; accepted = x }) in
     let Q : List Accepted → Type 0 = λ x. AreOwners l.blocks l.members x c.own.new.owners in
     let owners = c.self.inside.owners in
     let written : IsOwnedBy l a owners.items c.own.new.owners = record {
-      watch = c.index-watches-entry.result;
+      watch = c.watch-watch.result;
       regs = c.as_slice.result.now;
       before = c.deref_mut.result.now;
       watch_is = watch_found spot found;

@@ -2,7 +2,7 @@ use Rattle.std.proofs.Common.{◌∙◌, Err, ap, refl}
 use Rattle.std.proofs.lemmas.Result.{err_from_is_err_and}
 use Rattle.dci_fields.specs.declared.fault.FieldFault.{FieldFault}
 use Rattle.dci_codec.proofs.Spellings.{fault_passed, fault_refused, spelled_from}
-use Rattle.dci_codec.proofs.spelling.spell.Goals as goal
+use Rattle.dci_codec.proofs.spelling.spell_with.Goals as goal
 
 pub returns-in_err-payload-clause-fault : goal.returns-in_err-payload-clause-fault
 returns-in_err-payload-clause-fault c =

@@ -1,7 +1,7 @@
 use Rattle.std.proofs.Common.{sym, subst, ap, ◌∙◌}
 use Rattle.cell_placer.specs.Ledger.{LedgerValue, IsLedger}
 use Rattle.cell_placer.proofs.Entries.{ledger_after, ledger_counted}
-use Rattle.cell_placer.proofs.desk.Desk.place.Goals as goal
+use Rattle.cell_placer.proofs.desk.Desk.place_with.Goals as goal
 
 pub invariant_of-self : goal.invariant_of-self
 invariant_of-self c = record {
