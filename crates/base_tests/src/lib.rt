@@ -4,6 +4,8 @@
 #[cfg(test)]
 mod of_alloc_fields;
 #[cfg(test)]
+mod of_bits_core;
+#[cfg(test)]
 mod of_gold_scrambler;
 #[cfg(test)]
 mod of_grid_file;

@@ -11,11 +11,19 @@ pub record IsReadSoFar (old new : Option (List ℕ)) (bytes : List ℕ) (limit :
 
 -- one more read, which failed
 pub loses_no_more : (old mid new : Option (List ℕ)) (bytes : List ℕ) (limit : ℕ) → IsReadSoFar old mid bytes limit → Keeps mid new
-    → LosesAtMost old new (limit + 1)
+    → LosesAtMost old new limit
 loses_no_more old mid new bytes limit so_far kept = record {
   lost = bytes;
   first = Consumes-kept old mid new bytes so_far.read kept;
-  few = omega (arith, so_far.within);
+  few = so_far.within;
+}
+
+-- with a byte to spare
+pub loses_few : (old new : Option (List ℕ)) (limit : ℕ) → LosesAtMost old new limit → LosesAtMost old new (limit + 1)
+loses_few old new limit loses = record {
+  lost = loses.lost;
+  first = loses.first;
+  few = omega (arith, loses.few);
 }
 
 -- one more read, of no more bytes than are left below the limit and one

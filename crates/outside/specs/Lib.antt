@@ -4,7 +4,9 @@ pub mod Views
 pub mod Causes
 pub mod Taken
 pub mod Lost
-pub mod Memory
-pub mod Named
 pub mod Counts
+pub mod Memory
+pub mod Sure
+pub mod Named
+pub mod Counted
 pub mod Written

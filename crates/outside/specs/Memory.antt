@@ -3,6 +3,7 @@ use Rattle.std.specs.Prelude.{◌≡◌, ◌⊎◌, ◌<◌, ◌≤◌, ◌-◌,
 use Rattle.std.specs.Option.{option_map}
 use Rattle.std.specs.List.{Contains, find}
 use Rattle.std.specs.Cmp.Lexicographic.{pointwise}
+use Rattle.outside.specs.Counts.{Counts}
 use Rattle.outside.specs.Missed.{Missed}
 
 -- an object: its name and its bytes
@@ -23,6 +24,10 @@ pub record Shelved : Type 0 where
   pub faults : ℕ
   pub longs : ℕ
   pub missed : List Missed
+
+-- what it counts
+abbrev pub counts_of : Shelved → Counts
+counts_of shelf = record { faults = shelf.faults; longs = shelf.longs; missed = shelf.missed }
 
 -- the next fetch of this name fails: its number is listed, or no object has the name
 abbrev pub FetchFails : Shelved → List ℕ → Type 0

@@ -1,6 +1,6 @@
 -- How an object that is handed to a shelf in memory is seen.
 use Rattle.std.specs.String.{string_bytes}
-use Rattle.outside.specs.declared.memory_shelf.NamedBytes.{NamedBytes}
+use Rattle.outside.specs.declared.objects.NamedBytes.{NamedBytes}
 use Rattle.outside.specs.Memory.{Object}
 
 -- its name and its bytes

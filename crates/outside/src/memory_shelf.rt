@@ -1,21 +1,12 @@
-ghost use Rattle.std.specs.Prelude.{◌≡◌, ◌⊎◌, ℕ, List, [], map, length};
-ghost use Rattle.std.specs.Option.{option_map};
+ghost use Rattle.std.specs.Prelude.{◌≡◌, ◌⊎◌, ℕ, List, [], map};
 ghost use Rattle.std.specs.Result.{IsErrOf};
 ghost use Rattle.outside.specs.Causes.{Fetches, next_count};
-ghost use Rattle.outside.specs.Memory.{bytes_of};
-ghost use Rattle.outside.specs.Named.{object_of};
 
 use crate::misses::Misses;
-use crate::{FetchFault, Shelf};
+use crate::objects::{find, give};
+use crate::{FetchFault, NamedBytes, Shelf};
 use std::alloc::Global;
 use std::marker::Model;
-
-/// An object of a shelf in memory.
-#[derive(Drop)]
-pub struct NamedBytes {
-    pub name: String,
-    pub bytes: Vec<u8>,
-}
 
 /// A shelf that stands in memory. Of two objects with one name the first counts. It tells what it holds.
 #[derive(Drop)]
@@ -69,7 +60,8 @@ impl MemoryShelf {
 }
 
 impl Shelf for MemoryShelf {
-    ghost use Rattle.outside.specs.Memory.{bytes_of, FetchFails, FindsTooMuch};
+    ghost use Rattle.outside.specs.Memory.{bytes_of, counts_of, FetchFails, FindsTooMuch};
+    ghost use Rattle.outside.specs.Counted.{counts_after};
 
     ghost shows = { λ s. record { told = bytes_of s.objects; faults = s.faults; longs = s.longs; missed = s.missed } };
 
@@ -96,6 +88,8 @@ impl Shelf for MemoryShelf {
             })
             name.now limit into.new.items result }
 
+        ensures counted { counts_of self.new ≡ counts_after (counts_of self.old) name.now result }
+
         // Which calls fail and which find too much; where the name can't be noted, the answer is `NoMemory`.
         ensures failed { IsErrOf result FetchFault.Failed → FetchFails self.old name.now }
         ensures fails { FetchFails self.old name.now → IsErrOf result FetchFault.Failed ⊎ IsErrOf result FetchFault.NoMemory }
@@ -109,32 +103,12 @@ impl Shelf for MemoryShelf {
         let call = self.calls;
         self.calls = call.saturating_add(1);
         if self.failing.contains(&call) {
-            self.misses.fail(alloc, name)?;
-            return Err(FetchFault::Failed);
+            return self.misses.settle(alloc, name, Err(FetchFault::Failed));
         }
         let Some(bytes) = find(self.objects.as_slice(), name) else {
-            self.misses.fail(alloc, name)?;
-            return Err(FetchFault::Failed);
+            return self.misses.settle(alloc, name, Err(FetchFault::Failed));
         };
-        if bytes.len() > limit {
-            self.misses.overrun(alloc, name)?;
-            return Err(FetchFault::TooLong);
-        }
-        match into.extend_from_slice(bytes) {
-            Ok(()) => Ok(()),
-            Err(_) => Err(FetchFault::NoMemory),
-        }
+        let answer = give(bytes, limit, into);
+        self.misses.settle(alloc, name, answer)
     }
-}
-
-/// The bytes of the first object with this name.
-fn find<'a>(objects: &'a [NamedBytes], name: &str) -> Option<&'a [u8]>
-    ensures { option_map (λ bytes. bytes.now) result ≡ bytes_of (map object_of objects.now) name.now }
-{
-    for object in objects {
-        if object.name.as_str() == name {
-            return Some(object.bytes.as_slice());
-        }
-    }
-    None
 }

@@ -96,6 +96,7 @@ impl Sink for MemorySink {
         ensures kept { OnOk result (self.new.faults ≡ self.old.faults) }
         ensures later { self.old.faults ≤ self.new.faults }
 
+        ensures counted { OnErr result (self.new.faults ≡ next_count self.old.faults) }
         ensures fails { IsErr result ↔ ((piece.now ≢ []) × PutFails self.old) }
         ensures share { IfOk result (λ n. n ≡ share_of self.old piece.now) }
         ensures numbered { piece.now ≢ [] → self.new.calls ≡ next_count self.old.calls }

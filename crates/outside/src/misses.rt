@@ -1,9 +1,12 @@
 //! What a shelf counts of its fetches.
-ghost use Rattle.std.specs.Prelude.{◌≡◌, ◌≤◌, ◌++◌, ◌∷◌, [], OnOk, OnErr};
+ghost use Rattle.std.specs.Prelude.{◌≡◌, ◌≤◌, ◌++◌, ◌∷◌, ◌⊎◌, [], OnOk, OnErr};
+ghost use Rattle.std.specs.Result.{IsErrOf};
 ghost use Rattle.outside.specs.Causes.{Rose, next_count};
+ghost use Rattle.outside.specs.Counted.{IsLater, counts_after};
 ghost use Rattle.outside.specs.Missed.{FailedName, LongName};
 ghost use Rattle.outside.specs.Noted.{missed_of};
 
+use crate::FetchFault;
 use std::alloc::{AllocError, Global};
 use std::marker::Model;
 
@@ -92,5 +95,26 @@ impl Misses {
         self.note(alloc, Miss::TooLong(String::from_str(alloc, name)?))?;
         self.longs = self.longs.saturating_add(1);
         Ok(())
+    }
+
+    /// Counts and notes a fetch of this name by its answer, and hands the answer on. Where there is no memory for the
+    /// name of a miss nothing changes, and the answer is `NoMemory`.
+    pub fn settle(
+        &mut self,
+        alloc: Global,
+        name: &str,
+        answer: Result<(), FetchFault>,
+    ) -> Result<(), FetchFault>
+        ensures counted { self.new ≡ counts_after self.old name.now result }
+        ensures later { IsLater self.old self.new }
+        ensures kept { OnOk answer (result ≡ answer) }
+        ensures refused { OnErr answer ((result ≡ answer) ⊎ IsErrOf result FetchFault.NoMemory) }
+    {
+        match answer {
+            Err(FetchFault::Failed) => self.fail(alloc, name)?,
+            Err(FetchFault::TooLong) => self.overrun(alloc, name)?,
+            _ => {}
+        }
+        answer
     }
 }

@@ -1,6 +1,6 @@
 ghost use Rattle.std.specs.Prelude.{◌≡◌, ◌≢◌, ◌<◌, ◌≤◌, [], None, take, length, IfOk, OnErr, OnOk, Ok};
 ghost use Rattle.std.specs.Io.KnownBytes.{Appends, Keeps};
-ghost use Rattle.outside.specs.Causes.{Rose};
+ghost use Rattle.outside.specs.Causes.{Rose, next_count};
 
 use crate::{Failed, Sink};
 use std::io::Write;
@@ -42,6 +42,7 @@ impl<W: Write + Drop> Sink for StdSink<W> {
         ensures kept { OnOk result (self.new.faults ≡ self.old.faults) }
         ensures later { self.old.faults ≤ self.new.faults }
 
+        ensures counted { OnErr result (self.new.faults ≡ next_count self.old.faults) }
         ensures written { IfOk result (λ n. Appends self.old.contents self.new.contents (take n piece.now)) }
         ensures unwritten { OnErr result (Keeps self.old.contents self.new.contents) }
     {

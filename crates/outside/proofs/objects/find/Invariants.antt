@@ -1,7 +1,7 @@
 use Rattle.std.proofs.Common.{◌≡◌, map, drop}
 use Rattle.outside.specs.Memory.{bytes_of}
 use Rattle.outside.specs.Named.{object_of}
-use Rattle.outside.proofs.memory_shelf.find.Given as goal
+use Rattle.outside.proofs.objects.find.Given as goal
 
 -- no object before the place has the name
 abbrev pub invariant-loop-object : goal.invariant-loop-object
