@@ -5,6 +5,8 @@ use Rattle.std.specs.List.{count_by}
 use Rattle.std.proofs.lemmas.List.Sums.{sum_by-cons}
 use Rattle.grant_file.specs.declared.grants.Grant.{Grant}
 use Rattle.table_files.specs.declared.tables.Tables.{Tables}
+use Rattle.dci_codec.specs.declared.codes.Codes.{Codes}
+use Rattle.dci_codec.specs.KnownCodes.{AreOf}
 use Rattle.cell_placer.specs.declared.refusal.Placed.{Placed}
 use Rattle.cell_placer.specs.declared.refusal.Refusal.{Refusal}
 use Rattle.cell_placer.specs.Placing.{DeskValue, fates}
@@ -23,6 +25,12 @@ pub record Underway (tables : Tables) (grants : List Grant) (n : ℕ) (first now
   pub desk : ArePlacedBelow tables grants n first now
   pub placed : AreCounted is_ok grants n first now counts.placed
   pub overlapped : AreCounted is_overlap grants n first now counts.overlapped
+
+-- and the codes that are kept are by the tables
+pub record UnderwayWith (codes : Codes) (tables : Tables) (grants : List Grant) (n : ℕ) (first now : DeskValue)
+    (counts : Counts) : Type 0 where
+  pub placed : Underway tables grants n first now counts
+  pub kept : AreOf tables codes
 
 at_most_one : (b : Bool) → cond b 1 0 ≤ 1
 at_most_one true = omega arith

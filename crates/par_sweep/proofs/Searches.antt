@@ -13,6 +13,8 @@ use Rattle.table_files.specs.declared.tables.Tables.{Tables}
 use Rattle.monitor_plan.specs.Watch.{IsInside}
 use Rattle.monitor_plan.proofs.Plans.{IsMade}
 use Rattle.monitor_plan.proofs.PlannedWatches.{planned-made}
+use Rattle.dci_codec.specs.declared.codes.Codes.{Codes}
+use Rattle.dci_codec.specs.KnownCodes.{AreOf}
 use Rattle.blind_search.specs.Report.{heard_in, report_of}
 use Rattle.blind_search.proofs.Entries.{length-given}
 use Rattle.par_sweep.specs.declared.jobs.Job.{Job}
@@ -25,6 +27,12 @@ use Rattle.par_sweep.proofs.LegalLoad.{count_of_handsets, legal}
 use Rattle.par_sweep.proofs.Plans.{plans_every_slot}
 use Rattle.par_sweep.proofs.Ranges.{made_more, made_same, part_made, sums_same}
 use Rattle.par_sweep.proofs.SlotDesks.{blocks_of}
+
+-- the first jobs of a list are searched and the others as they were, and the codes that are kept are those of the tables
+pub record AreSearchedBelow (tables : Tables) (grids : List GridValue) (first : List Job) (place : ℕ) (jobs : List Job) (codes : Codes)
+    : Type 0 where
+  pub searched : jobs ≡ map (job_searched tables grids) (take place first) ++ drop place first
+  pub kept : AreOf tables codes
 
 -- one job more is searched
 pub searched_more : (tables : Tables) (grids : List GridValue) (first : List Job) (place : ℕ) {now : List Job}
@@ -167,6 +175,11 @@ totals_there tables t {heard} {counts} c h =
 pub record AreSwept (tables : Tables) (n : ℕ) (grids : List GridValue) (counts : List Counts) : Type 0 where
   pub grids_are : grids ≡ map (slot_grid tables) (range_with_len 0 n)
   pub counts_are : counts ≡ map slot_counts (range_with_len 0 n)
+
+-- and the codes that are kept are by the tables
+pub record AreSweptWith (codes : Codes) (tables : Tables) (n : ℕ) (grids : List GridValue) (counts : List Counts) : Type 0 where
+  pub swept : AreSwept tables n grids counts
+  pub kept : AreOf tables codes
 
 -- one slot more
 pub swept_more : {tables : Tables} {n : ℕ} {grids grids_next : List GridValue} {counts counts_next : List Counts}

@@ -1,5 +1,6 @@
 //! The slots of the load: the grants of each are placed.
 ghost use Rattle.std.specs.Prelude.{◌≡◌, ◌+◌, ◌-◌, ◌<◌, ◌^◌, ◌∷◌, [], ◌++◌, IfOk, OnOk, length};
+ghost use Rattle.dci_codec.specs.KnownCodes.{AreOf};
 ghost use Rattle.cell_placer.specs.Placing.{desk_after, fates};
 ghost use Rattle.par_sweep.specs.LoadCell.{load_cell};
 ghost use Rattle.par_sweep.specs.Slots.{counted, counts_of, slot_counts, slot_desk, slot_grid};
@@ -8,6 +9,7 @@ use crate::load_grants;
 use crate::pushing::push_value;
 use bits_core::NoMemory;
 use cell_placer::{Desk, DeskFault, Placed, Refusal};
+use dci_codec::Codes;
 use grant_file::Grant;
 use rrc_settings::Cell;
 use slot_grid::Grid;
@@ -24,10 +26,12 @@ pub(crate) struct Counts {
     pub overlapped: u32,
 }
 
-/// Places the grants of a slot of the load, and appends the grid that they leave and what was counted.
+/// Places the grants of a slot of the load, and appends the grid that they leave and what was counted. `codes` are those that
+/// the grants of earlier slots needed.
 pub(crate) fn push_slot(
     alloc: Global,
     cell: &Cell,
+    codes: &mut Codes,
     tables: &Tables,
     t: u32,
     grids: &mut Vec<Grid>,
@@ -35,12 +39,14 @@ pub(crate) fn push_slot(
 ) -> Result<(), NoMemory>
     requires cell { cell.now ≡ load_cell }
     requires t { t < 200 }
+    requires codes { AreOf tables.now codes.old }
     ensures grids { OnOk result (grids.new.items ≡ grids.old.items ++ slot_grid tables.now t ∷ []) }
     ensures counts { OnOk result (counts.new.items ≡ counts.old.items ++ slot_counts t ∷ []) }
+    ensures codes { AreOf tables.now codes.new }
 {
     let list = load_grants(alloc, t)?;
     let mut desk = desk_of(alloc, cell, t as u16)?;
-    let counted = place_all(&mut desk, tables, list.grants.as_slice());
+    let counted = place_all(&mut desk, codes, tables, list.grants.as_slice());
     push_value(grids, desk.into_grid())?;
     push_value(counts, counted)
 }
@@ -58,18 +64,20 @@ fn desk_of(alloc: Global, cell: &Cell, t: u16) -> Result<Desk, NoMemory>
     }
 }
 
-/// Places grants one after the other, and counts.
-fn place_all(desk: &mut Desk, tables: &Tables, grants: &[Grant]) -> Counts
-    requires { desk.old.ledger.calls + length grants.now < 2 ^ 32 }
+/// Places grants one after the other, and counts. `codes` are those that earlier grants needed.
+fn place_all(desk: &mut Desk, codes: &mut Codes, tables: &Tables, grants: &[Grant]) -> Counts
+    requires few { desk.old.ledger.calls + length grants.now < 2 ^ 32 }
+    requires codes { AreOf tables.now codes.old }
     ensures desk { desk.new ≡ desk_after tables.now desk.old grants.now }
     ensures counts { result ≡ counts_of (fates desk.old.ledger grants.now) }
+    ensures codes { AreOf tables.now codes.new }
 {
     let mut counts = Counts {
         placed: 0,
         overlapped: 0,
     };
     for grant in grants {
-        counts = counted(counts, desk.place(tables, grant));
+        counts = counted(counts, desk.place_with(codes, tables, grant));
     }
     counts
 }

@@ -11,6 +11,7 @@ use crate::slots::{Counts, push_slot};
 use crate::{Gate, Job, SlotTotals, load_cell, search_all};
 use bits_core::NoMemory;
 use blind_search::Searcher;
+use dci_codec::Codes;
 use monitor_plan::{Plan, PlanFault};
 use rrc_settings::Cell;
 use std::alloc::Global;
@@ -35,8 +36,9 @@ pub fn sweep_of<R: Threads + Sync, G: Gate>(
     let cell = load_cell(alloc)?;
     let mut grids = Vec::new(alloc);
     let mut counts = Vec::new(alloc);
+    let mut codes = Codes::new();
     for t in 0..number {
-        push_slot(alloc, &cell, tables, t, &mut grids, &mut counts)?;
+        push_slot(alloc, &cell, &mut codes, tables, t, &mut grids, &mut counts)?;
     }
     let mut jobs = jobs_of(alloc, &cell, number as usize)?;
     search_all(rt, gate, tables, grids.as_slice(), &mut jobs);

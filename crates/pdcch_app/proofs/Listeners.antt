@@ -17,6 +17,8 @@ use Rattle.run_steps.specs.declared.stops.Stop.TheVariants.{OutOfMemory, Ended}
 use Rattle.run_steps.specs.declared.statuses.Status.TheVariants as ends
 use Rattle.run_steps.specs.Steps.{Ends, IsRead, IsStop}
 use Rattle.run_steps.specs.Outcome.{Outcome, Printed, Refusal, checked, refused, ended}
+use Rattle.dci_codec.specs.declared.codes.Codes.{Codes}
+use Rattle.dci_codec.specs.KnownCodes.{AreOf}
 use Rattle.dci_codec.specs.declared.heard.Heard.{Heard}
 use Rattle.blind_search.specs.Report.{report_of}
 use Rattle.report_text.specs.Head.{head_text}
@@ -108,6 +110,12 @@ text_more cell tables grid listeners last =
 abbrev pub ReportedUpTo : RawCell → Tables → GridValue → ℕ → ℕ → ℕ → List ℕ → Type 0
 ReportedUpTo cell tables grid first end handset =
     AreReported cell tables grid (take (handset - first) (range_with_len first (end - first)))
+
+-- and the codes that are kept are by the tables
+pub record ReportedWith (codes : Codes) (cell : RawCell) (tables : Tables) (grid : GridValue) (first end handset : ℕ)
+    (text : List ℕ) : Type 0 where
+  pub reported : ReportedUpTo cell tables grid first end handset text
+  pub kept : AreOf tables codes
 
 -- a handset of these, where those before it were reported
 module _ (cell : RawCell) (tables : Tables) (grid : GridValue) (first end handset : ℕ) (text : List ℕ)

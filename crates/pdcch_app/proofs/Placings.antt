@@ -5,6 +5,8 @@ use Rattle.std.specs.List.{list_all}
 use Rattle.std.proofs.lemmas.List.{drop_more, drop_all, append-nil, append_assoc}
 use Rattle.grant_file.specs.declared.grants.Grant.{Grant}
 use Rattle.table_files.specs.declared.tables.Tables.{Tables}
+use Rattle.dci_codec.specs.declared.codes.Codes.{Codes}
+use Rattle.dci_codec.specs.KnownCodes.{AreOf}
 use Rattle.cell_placer.specs.declared.refusal.Placed.{Placed}
 use Rattle.cell_placer.specs.declared.refusal.Refusal.{Refusal}
 use Rattle.cell_placer.specs.Fate.{decided, fate}
@@ -49,6 +51,11 @@ pub record Underway (tables : Tables) (grants : List Grant) (start : Start) (now
   pub all : (now.all && list_all is_placed (fates now.desk.ledger (drop n grants)))
       ≡ list_all is_placed (fates start.desk.ledger grants)
   pub calls : now.desk.ledger.calls ≡ start.desk.ledger.calls + n
+
+-- and the codes that are kept are by the tables
+pub record UnderwayWith (codes : Codes) (tables : Tables) (grants : List Grant) (start : Start) (now : Now) (n : ℕ) : Type 0 where
+  pub placed : Underway tables grants start now n
+  pub kept : AreOf tables codes
 
 -- before the first grant
 pub begun : (tables : Tables) (grants : List Grant) (start : Start)

@@ -3,6 +3,7 @@ ghost use Rattle.std.specs.Prelude.{◌≡◌, ◌-◌, ◌<◌, ◌≤◌, All,
 ghost use Rattle.std.specs.List.{range_with_len};
 ghost use Rattle.monitor_plan.specs.Planned.{planned};
 ghost use Rattle.monitor_plan.specs.Watch.{IsInside};
+ghost use Rattle.dci_codec.specs.KnownCodes.{AreOf};
 ghost use Rattle.run_steps.specs.Outcome.{checked, ended, refused};
 ghost use Rattle.run_steps.specs.Steps.{Ends, IsRead, IsStop};
 ghost use Rattle.pdcch_app.specs.Lines.{no_such_handset_line, slot_line};
@@ -11,6 +12,7 @@ ghost use Rattle.pdcch_app.specs.Reporting.{watches_found, Listens};
 
 use crate::lines::{no_such_handset_line, slot_line};
 use blind_search::Searcher;
+use dci_codec::Codes;
 use monitor_plan::{Plan, PlanFault};
 use report_text::{append_head, append_report};
 use rrc_settings::{Cell, Name};
@@ -93,16 +95,18 @@ fn report_of(
 {
     let mut text = Vec::new(alloc);
     append_head(alloc, grid, &mut text)?;
+    let mut codes = Codes::new();
     for handset in first..end {
-        push_handset(alloc, cell, tables, grid, handset, &mut text)?;
+        push_handset(alloc, cell, &mut codes, tables, grid, handset, &mut text)?;
     }
     Ok(Answer::new(Status::Done, text, Vec::new(alloc)))
 }
 
-/// Appends the lines of a handset.
+/// Appends the lines of a handset. `codes` are those that the handsets before it needed.
 fn push_handset(
     alloc: Global,
     cell: &Cell,
+    codes: &mut Codes,
     tables: &Tables,
     grid: &Grid,
     handset: usize,
@@ -111,12 +115,14 @@ fn push_handset(
     requires handset { handset < length cell.now.handsets }
     requires mu { grid.now.mu ≡ cell.now.mu }
     requires blocks { grid.now.blocks ≡ cell.now.blocks }
-    ensures { Listens cell.now tables.now grid.now handset text.old.items text.new.items result }
+    requires codes { AreOf tables.now codes.old }
+    ensures lines { Listens cell.now tables.now grid.now handset text.old.items text.new.items result }
+    ensures codes { AreOf tables.now codes.new }
 {
     let plan = plan_of(alloc, cell, grid, handset)?;
     let name = &cell.raw().handsets.as_slice()[handset].name;
     let mut searcher = Searcher::prepare(alloc, plan)?;
-    searcher.search(tables, grid);
+    searcher.search_with(codes, tables, grid);
     append_report(alloc, name, searcher.plan(), searcher.found(), text)?;
     Ok(())
 }

@@ -4,14 +4,16 @@ ghost use Rattle.std.specs.Prelude.{ℕ, List};
 
 use crate::top::run;
 use outside::{MemorySink, NamedBytes, Shelf};
-use par_sweep::OpenGate;
+use par_sweep::{Gate, OpenGate};
 use run_steps::Status;
 use std::alloc::{AllocError, Global};
 use std::test::Fail;
 use std::thread::Threads;
 
+mod meeting;
 mod outcomes;
 mod short_shelf;
+mod sweeping;
 
 /// The settings of the example.
 const SETTINGS: &str =
@@ -92,7 +94,7 @@ struct Ran {
     err: MemorySink,
 }
 
-/// Runs a line of words over a shelf into an output and an error output.
+/// Runs a line of words over a shelf into an output and an error output, with an open gate.
 fn run_into<R: Threads + Sync, S: Shelf>(
     rt: &R,
     alloc: Global,
@@ -102,8 +104,22 @@ fn run_into<R: Threads + Sync, S: Shelf>(
 ) -> Result<Ran, Fail>
     requires { (name : List ℕ) → S.may shelf.old name }
 {
+    run_past(rt, alloc, &OpenGate, line, shelf, sinks)
+}
+
+/// Runs a line of words over a shelf into an output and an error output, with a gate for the searches.
+fn run_past<R: Threads + Sync, G: Gate, S: Shelf>(
+    rt: &R,
+    alloc: Global,
+    gate: &G,
+    line: &str,
+    shelf: &mut S,
+    sinks: (MemorySink, MemorySink),
+) -> Result<Ran, Fail>
+    requires { (name : List ℕ) → S.may shelf.old name }
+{
     let list = words(alloc, line)?;
     let (mut out, mut err) = sinks;
-    let status = run(rt, alloc, &OpenGate, &list, shelf, &mut out, &mut err);
+    let status = run(rt, alloc, gate, &list, shelf, &mut out, &mut err);
     Ok(Ran { status, out, err })
 }

@@ -10,6 +10,7 @@ ghost use Rattle.pdcch_app.specs.Writing.{written, Answers, NamesHandset, IsRefu
 use crate::searching::slot_refused;
 use bits_core::NoMemory;
 use cell_placer::{Desk, DeskFault};
+use dci_codec::Codes;
 use grant_file::{Grant, GrantList};
 use grid_file::write_grid;
 use report_text::append_refusal;
@@ -87,9 +88,10 @@ fn place_all(
     requires grants { All IsReadGrant grants.now }
     ensures { Answers tables.now grants.now desk.old desk.new lines.old.items lines.new.items result }
 {
+    let mut codes = Codes::new();
     let mut all_placed = true;
     for (number, grant) in grants.iter().enumerate() {
-        match desk.place(tables, grant) {
+        match desk.place_with(&mut codes, tables, grant) {
             Ok(_) => {}
             Err(refusal) => {
                 append_refusal(alloc, number as u32, grant, &refusal, lines)?;

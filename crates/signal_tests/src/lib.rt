@@ -5,6 +5,8 @@
 #[cfg(test)]
 mod bits;
 #[cfg(test)]
+mod meeting;
+#[cfg(test)]
 mod of_blind_search;
 #[cfg(test)]
 mod of_cell_placer;

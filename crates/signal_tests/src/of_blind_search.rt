@@ -1,5 +1,5 @@
 //! The search of a plan of many watches.
-ghost use Rattle.std.specs.Prelude.{◌≡◌, ◌<◌, All, IfOk, length};
+ghost use Rattle.std.specs.Prelude.{◌≡◌, ℕ, ◌<◌, ◌≤◌, All, IfOk, length};
 ghost use Rattle.monitor_plan.specs.Watch.{IsInside, IsSound};
 
 use blind_search::Searcher;
@@ -30,21 +30,28 @@ pub fn large_plan(rt: &impl Abort, alloc: Global) -> Result<Plan, Fail>
     Ok(plan)
 }
 
-/// Its first watch: candidate 0 of set 1 in symbol 0.
+/// The first watch of a plan.
 fn first_of(plan: &Plan) -> &Watch
     requires some { 0 < length plan.now }
-    requires inside { All (IsInside 51) plan.now }
     ensures sound { IsSound result.now }
-    ensures inside { IsInside 51 result.now }
+    ensures inside { (blocks : ℕ) → All (IsInside blocks) plan.now → IsInside blocks result.now }
 {
     &plan.watches()[0]
 }
 
-/// A grid of 51 blocks with a grant at the first watch of the plan.
-pub fn granted(rt: &impl Abort, alloc: Global, tables: &Tables, plan: &Plan) -> Result<Grid, Fail>
+/// A grid of the first slot at 15 kHz, of so many blocks, with a grant at the first watch of a plan.
+pub fn granted(
+    rt: &impl Abort,
+    alloc: Global,
+    tables: &Tables,
+    plan: &Plan,
+    blocks: u16,
+) -> Result<Grid, Fail>
     requires some { 0 < length plan.now }
-    requires inside { All (IsInside 51) plan.now }
-    ensures { IfOk result (λ grid. grid.blocks ≡ 51) }
+    requires least { 6 ≤ blocks }
+    requires most { blocks ≤ 275 }
+    requires inside { All (IsInside blocks) plan.now }
+    ensures { IfOk result (λ grid. grid.blocks ≡ blocks) }
 {
     let watch = first_of(plan);
     assert!(rt; watch.fits(Format::F10));
@@ -52,10 +59,10 @@ pub fn granted(rt: &impl Abort, alloc: Global, tables: &Tables, plan: &Plan) -> 
         name: Some(FieldName::Tdra),
         value: 5,
     }];
-    let mut grid = Grid::blank(alloc, 0, 0, 0, 51)?;
+    let mut grid = Grid::blank(alloc, 0, 0, 0, blocks)?;
     let refused = spell(tables, watch, Format::F10, &given, &mut grid).err();
     assert_eq!(rt; refused, None);
-    assert_eq!(rt; grid.blocks(), 51);
+    assert_eq!(rt; grid.blocks(), blocks);
     Ok(grid)
 }
 
@@ -64,7 +71,7 @@ pub fn granted(rt: &impl Abort, alloc: Global, tables: &Tables, plan: &Plan) -> 
 fn a_large_plan_is_searched(rt: HostRuntime) -> Result<(), Fail> {
     let tables = ascending_tables(rt.alloc())?;
     let plan = large_plan(&rt, rt.alloc())?;
-    let grid = granted(&rt, rt.alloc(), &tables, &plan)?;
+    let grid = granted(&rt, rt.alloc(), &tables, &plan, 51)?;
     let mut searcher = Searcher::prepare(rt.alloc(), plan)?;
     let heard = searcher.search(&tables, &grid);
     assert_eq!(rt; heard.len(), 30);

@@ -5,7 +5,7 @@ ghost use Rattle.coreset_map.specs.RegOrder.{reg_at, AreRegs};
 use arrayvec::ArrayVec;
 use bits_core::Coded;
 use coreset_map::Reg;
-use dmrs_qpsk::{BadPlace, Flaw, put_bits, reference_point, take_bits};
+use dmrs_qpsk::{BadPlace, Flaw, References, put_bits, reference_point, take_bits, take_bits_with};
 use slot_grid::Grid;
 use slot_grid::Point::{self, Empty, P00, P01, P10, P11};
 use std::test::Fail;
@@ -108,6 +108,21 @@ fn bits_put_are_taken(rt: HostRuntime) -> Result<(), Fail> {
     let mut grid = Grid::blank(rt.alloc(), 0, 0, 0, 51)?;
     put_bits(&mut grid, 0, &regs, 500, &bits);
     assert!(rt; take_bits(&grid, 0, &regs, 500) == Ok(bits));
+    Ok(())
+}
+
+#[test]
+fn kept_references_change_no_answer(rt: HostRuntime) -> Result<(), Fail> {
+    let regs = eight_cces();
+    let mut grid = Grid::blank(rt.alloc(), 0, 0, 0, 51)?;
+    put_bits(&mut grid, 0, &regs, 500, &repeated(BITS));
+    let mut references = References::new();
+    let first = take_bits_with(&mut references, &grid, 0, &regs, 500);
+    let other = take_bits_with(&mut references, &grid, 0, &regs, 501);
+    let again = take_bits_with(&mut references, &grid, 0, &regs, 500);
+    assert!(rt; first == Ok(repeated(BITS)));
+    assert!(rt; other == take_bits(&grid, 0, &regs, 501));
+    assert!(rt; again == Ok(repeated(BITS)));
     Ok(())
 }
 

@@ -1,7 +1,8 @@
 //! Values that are known from outside.
 use crate::bits::{row_of, spells};
 use bits_core::Coded;
-use rate_match::{Differs, length_for, order_of, select, unselect};
+use rate_match::{Differs, length_for, order_of, select, select_words, unselect, unselect_words};
+use std::process::Abort;
 
 #[test]
 fn lengths(rt: HostRuntime) {
@@ -111,4 +112,86 @@ fn word_of_a_repeated_code(rt: HostRuntime) {
     assert!(rt; unselect(&bits, 31, &mut word) == Err(Differs { at: 69 }));
     bits.set(2, true);
     assert!(rt; unselect(&bits, 31, &mut word) == Err(Differs { at: 66 }));
+}
+
+// Packed words give what single bits give, at each length and by each way of matching.
+#[test]
+fn packed_words(rt: HostRuntime) {
+    agree::<32>(&rt, 5, 1, 36);
+    agree::<32>(&rt, 5, 12, 30);
+    agree::<32>(&rt, 5, 20, 30);
+    agree::<64>(&rt, 6, 31, 70);
+    agree::<64>(&rt, 6, 24, 60);
+    agree::<64>(&rt, 6, 40, 60);
+    agree::<128>(&rt, 7, 63, 144);
+    agree::<128>(&rt, 7, 47, 108);
+    agree::<128>(&rt, 7, 63, 108);
+    agree::<256>(&rt, 8, 64, 280);
+    agree::<256>(&rt, 8, 63, 216);
+    agree::<256>(&rt, 8, 164, 200);
+    agree::<512>(&rt, 9, 60, 1728);
+    agree::<512>(&rt, 9, 108, 432);
+    agree::<512>(&rt, 9, 164, 300);
+}
+
+// The bits that are sent of one word and the word that they leave, and the first bit that differs from the one that it
+// repeats, by single bits and by packed words.
+fn agree<const N: usize>(rt: &impl Abort, n: u32, k: usize, e: usize) {
+    assert!(rt; 1 <= k && k <= 164 && 1 <= e && e <= 1728);
+    assert!(rt; n < 10 && 2usize.pow(n) == N && N <= 512 && length_for(k, e) == N);
+    let packed: [u64; 8] = [
+        0x243f_6a88_85a3_08d3,
+        0x1319_8a2e_0370_7344,
+        0xa409_3822_299f_31d0,
+        0x082e_fa98_ec4e_6c89,
+        0x4528_21e6_38d0_1377,
+        0xbe54_66cf_34e9_0c6c,
+        0xc0ac_29b7_c97c_50dd,
+        0x3f84_d5b5_b547_0917,
+    ];
+    let mut word = [false; N];
+    for at in 0..N {
+        word[at] = packed[at / 64] >> (at % 64) & 1 == 1;
+    }
+    let mut sent = Coded::new();
+    select(&word, k, e, &mut sent);
+    let mut sent_words = Coded::new();
+    select_words(&packed, n, k, e, &mut sent_words);
+    assert!(rt; sent == sent_words);
+    leave_one_word::<N>(rt, n, k, &sent);
+    for at in [N, (N + e) / 2, e - 1] {
+        if N <= at && at < sent.len() {
+            let bit = sent.get(at);
+            sent.set(at, !bit);
+            differ_at::<N>(rt, n, k, &sent, at);
+            sent.set(at, bit);
+        }
+    }
+}
+
+// Both ways leave the same word, and packed words have zeros past it.
+fn leave_one_word<const N: usize>(rt: &impl Abort, n: u32, k: usize, sent: &Coded) {
+    let e = sent.len();
+    assert!(rt; 1 <= k && k <= 164 && 1 <= e && e <= 1728);
+    assert!(rt; n < 10 && 2usize.pow(n) == N && N <= 512 && length_for(k, e) == N);
+    let mut word = [true; N];
+    let mut packed = [u64::MAX; 9];
+    assert!(rt; unselect(sent, k, &mut word) == Ok(()));
+    assert!(rt; unselect_words(sent, k, n, &mut packed) == Ok(()));
+    for at in 0..576 {
+        let bit = packed[at / 64] >> (at % 64) & 1 == 1;
+        assert!(rt; bit == (at < N && word[at]));
+    }
+}
+
+// Both ways tell the same place, and packed words stay as they were.
+fn differ_at<const N: usize>(rt: &impl Abort, n: u32, k: usize, sent: &Coded, at: usize) {
+    let e = sent.len();
+    assert!(rt; 1 <= k && k <= 164 && 1 <= e && e <= 1728);
+    assert!(rt; n < 10 && 2usize.pow(n) == N && N <= 512 && length_for(k, e) == N);
+    let mut word = [true; N];
+    let mut packed = [u64::MAX; 8];
+    assert!(rt; unselect(sent, k, &mut word) == Err(Differs { at }));
+    assert!(rt; unselect_words(sent, k, n, &mut packed) == Err(Differs { at }));
+    assert!(rt; packed == [u64::MAX; 8]);
 }

@@ -37,7 +37,7 @@ fn a_large_plan_is_reported(rt: HostRuntime) -> Result<(), Fail> {
     let alloc = rt.alloc();
     let tables = ascending_tables(alloc)?;
     let plan = large_plan(&rt, alloc)?;
-    let grid = granted(&rt, alloc, &tables, &plan)?;
+    let grid = granted(&rt, alloc, &tables, &plan, 51)?;
     let name = Name::of(b"alpha").expect(&rt, "a name");
     let mut searcher = Searcher::prepare(alloc, plan)?;
     searcher.search(&tables, &grid);

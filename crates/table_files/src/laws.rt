@@ -1,4 +1,7 @@
-//! The laws of the reading of a table, each as the contract of a function that does nothing.
+//! The laws of the reading of a table, and what threads may do with the tables, each as the contract of a function that does
+//! nothing.
+ghost use Rattle.std.specs.Thread.{IsSend, IsSync};
+ghost use Rattle.table_files.specs.contracts.tables.Tables as tables;
 ghost use Rattle.table_files.specs.FirstTableFault.{FindsFirstFault};
 ghost use Rattle.table_files.specs.SpelledTables.{ReadWhereSpelled};
 
@@ -13,4 +16,10 @@ pub fn read_where_spelled()
 /// or the end of the text with too few numbers.
 pub fn finds_first_fault()
     ensures { FindsFirstFault }
+{}
+
+/// The tables may be moved to another thread, and several threads may read them at once.
+pub fn threads_may_have_tables()
+    ensures moved { IsSend tables.the_row }
+    ensures shared { IsSync tables.the_row }
 {}

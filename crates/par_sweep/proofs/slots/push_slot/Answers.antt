@@ -8,8 +8,8 @@ use Rattle.par_sweep.specs.LoadGrants.{load_grants}
 use Rattle.par_sweep.proofs.SlotDesks.{always, count_of_grants, counts_there, grid_of, no_calls, pushed}
 use Rattle.par_sweep.proofs.slots.push_slot.Goals as goal
 
-pub place_all-counted-requires : goal.place_all-counted-requires
-place_all-counted-requires c =
+pub place_all-counted-requires-clause-few : goal.place_all-counted-requires-clause-few
+place_all-counted-requires-clause-few c =
     let t = c.args.t in
     let calls = ap (λ (d : DeskValue). d.ledger.calls) c.in_ok-desk.ensures ∙ no_calls t in
     let grants = ap (λ (gs : List Grant). length gs)

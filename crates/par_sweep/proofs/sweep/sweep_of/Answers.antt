@@ -15,13 +15,16 @@ use Rattle.par_sweep.proofs.sweep.sweep_of.Goals as goal
 pub loop-t-preserved : goal.loop-t-preserved
 loop-t-preserved g c =
     let l = c.loop-t in
-    swept_more l.invariant c.in_ok-push_slot.ensures.grids c.in_ok-push_slot.ensures.counts
+    record {
+      swept = swept_more l.invariant.swept c.in_ok-push_slot.ensures.grids c.in_ok-push_slot.ensures.counts;
+      kept = c.in_ok-push_slot.ensures.codes;
+    }
 
 pub search_all-requires-after_bounds : goal.search_all-requires-after_bounds
 search_all-requires-after_bounds g c =
     let l = c.loop-t in
     let swept : AreSwept c.args.tables.now c.args.number l.grids.items l.counts.items =
-    swept_all l.auto.t-end c.loop-t-test.false l.invariant in
+    swept_all l.auto.t-end c.loop-t-test.false l.invariant.swept in
     λ κs bounds. all_can_search c.args.tables.now c.args.number c.requires.most
     (c.as_slice.ensures.value ∙ swept.grids_are) (c.deref_mut.ensures.value ∙ c.in_ok-jobs.ensures)
 
@@ -34,14 +37,14 @@ pub totals_of-requires-clause-slots : goal.totals_of-requires-clause-slots
 totals_of-requires-clause-slots g c =
     let l = c.loop-t in
     let swept : AreSwept c.args.tables.now c.args.number l.grids.items l.counts.items =
-    swept_all l.auto.t-end c.loop-t-test.false l.invariant in
+    swept_all l.auto.t-end c.loop-t-test.false l.invariant.swept in
     omega (arith, counted swept c.as_slice-2.ensures.value, c.requires.most)
 
 pub totals_of-requires-clause-counts : goal.totals_of-requires-clause-counts
 totals_of-requires-clause-counts g c =
     let l = c.loop-t in
     let swept : AreSwept c.args.tables.now c.args.number l.grids.items l.counts.items =
-    swept_all l.auto.t-end c.loop-t-test.false l.invariant in
+    swept_all l.auto.t-end c.loop-t-test.false l.invariant.swept in
     c.as_slice-2.ensures.value ∙ swept.counts_are
     ∙ ap (λ (k : ℕ). map slot_counts (range_with_len 0 k)) (sym (counted swept c.as_slice-2.ensures.value))
 
@@ -50,7 +53,7 @@ totals_of-requires-clause-jobs g c =
     let l = c.loop-t in
     let tables = c.args.tables.now in
     let swept : AreSwept tables c.args.number l.grids.items l.counts.items =
-    swept_all l.auto.t-end c.loop-t-test.false l.invariant in
+    swept_all l.auto.t-end c.loop-t-test.false l.invariant.swept in
     let old = c.in_ok-jobs.jobs.items in
     let new = c.search_all.new.jobs in
     let searched : new ≡ map (job_searched tables c.as_slice.result.now) old =
@@ -68,7 +71,7 @@ pub returns : goal.returns
 returns g c =
     let l = c.loop-t in
     let swept : AreSwept c.args.tables.now c.args.number l.grids.items l.counts.items =
-    swept_all l.auto.t-end c.loop-t-test.false l.invariant in
+    swept_all l.auto.t-end c.loop-t-test.false l.invariant.swept in
     subst (λ (k : ℕ). IfOk c.totals_of.result
     (λ (totals : Vec SlotTotals Global). totals.items ≡ map (slot_totals c.args.tables.now) (range_with_len 0 k)))
     (counted swept c.as_slice-2.ensures.value) c.totals_of.ensures

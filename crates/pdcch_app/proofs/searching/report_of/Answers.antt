@@ -8,17 +8,22 @@ returns-in_err-push_handset c =
     let l = c.loop-handset in
     rw (p.1, p.2)
     (stopped_ends c.args.cell.now c.args.tables.now c.args.grid.now c.args.first c.args.end l.handset l.text.items
-    l.auto.handset c.loop-handset-test.true l.invariant c.push_handset.new.text.items
-    c.in_err-push_handset.field-0.0 c.in_err-push_handset.ensures)
+    l.auto.handset c.loop-handset-test.true l.invariant.reported c.push_handset.new.text.items
+    c.in_err-push_handset.field-0.0 c.in_err-push_handset.ensures.lines)
 
 pub loop-handset-preserved : goal.loop-handset-preserved
 loop-handset-preserved c =
     let l = c.loop-handset in
-    reported_more c.args.cell.now c.args.tables.now c.args.grid.now c.args.first c.args.end l.handset l.text.items
-    l.auto.handset c.loop-handset-test.true l.invariant c.push_handset.new.text.items c.in_ok-push_handset.ensures
+    record {
+      reported =
+          reported_more c.args.cell.now c.args.tables.now c.args.grid.now c.args.first c.args.end l.handset l.text.items
+          l.auto.handset c.loop-handset-test.true l.invariant.reported c.push_handset.new.text.items
+          c.in_ok-push_handset.ensures.lines;
+      kept = c.in_ok-push_handset.ensures.codes;
+    }
 
 pub returns : goal.returns
 returns c =
     let l = c.loop-handset in
     all_ended c.args.cell.now c.args.tables.now c.args.grid.now c.args.first c.args.end l.handset l.text.items
-    c.new.result.items c.new-2.result c.loop-handset-test.false l.invariant c.new-2.ensures c.new.ensures.items
+    c.new.result.items c.new-2.result c.loop-handset-test.false l.invariant.reported c.new-2.ensures c.new.ensures.items
