@@ -1,7 +1,7 @@
 //! What is decided of a grant.
 ghost use Rattle.std.specs.Prelude.{◌≡◌, ◌&&◌, ◌<◌, All, IfOk, length, position, Some, true};
 ghost use Rattle.dci_fields.specs.FirstFieldFault.{field_fault};
-ghost use Rattle.monitor_plan.specs.Watch.{fits, list_of, watch_at, IsInside, IsSound};
+ghost use Rattle.monitor_plan.specs.Watch.{fits, list_of, watch_at, IsInside};
 ghost use Rattle.cell_placer.specs.Ready.{IsReady};
 ghost use Rattle.cell_placer.specs.Suitable.{is_suitable};
 ghost use Rattle.cell_placer.specs.Fate.{by_fault, by_free, by_room, by_handset, decided, is_free};
@@ -12,7 +12,7 @@ use crate::member::Accepted;
 use crate::suitable::{first_suitable, handset_of, is_suitable};
 use dci_fields::{FieldFault, pack};
 use grant_file::Grant;
-use monitor_plan::{Outline, Watch};
+use monitor_plan::Outline;
 
 /// How a grant is accepted, or the first cause against it.
 #[tactic(auto, unfolding(crate::specs::Fate::decided))]
@@ -52,13 +52,14 @@ fn decided_among(
     requires inside { All (IsInside ledger.now.blocks) plan.now }
     requires first { first < length plan.now }
     requires fitting { fits (watch_at plan.now first) grant.now.format ≡ true }
+    requires suitable { position (is_suitable grant.now) plan.now ≡ Some first }
     ensures { result ≡ let watch = watch_at plan.now first in by_fault ledger.now grant.now handset plan.now watch
         (field_fault (list_of watch grant.now.format) grant.now.format grant.now.given) }
 {
-    if let Some(fault) = fault_of(&plan.watch(first), grant) {
+    if let Some(fault) = fault_of(plan, first, grant) {
         return Err(Refusal::Field(fault));
     }
-    match first_free(ledger, plan, grant) {
+    match first_free(ledger, plan, grant, first) {
         None => Err(Refusal::Overlap {
             earlier: ledger.first_meeting(plan, first).unwrap_or(0),
         }),
@@ -82,26 +83,27 @@ fn decided_at(ledger: &Ledger, handset: usize, watch: usize) -> Result<Accepted,
     })
 }
 
-/// What is wrong with the grant's field values at a watch.
-fn fault_of(watch: &Watch, grant: &Grant) -> Option<FieldFault>
-    requires sound { IsSound watch.now }
-    requires fitting { fits watch.now grant.now.format ≡ true }
-    ensures { result ≡ field_fault (list_of watch.now grant.now.format) grant.now.format grant.now.given }
+/// What is wrong with the grant's field values at the watch of a place.
+fn fault_of(plan: &Outline, at: usize, grant: &Grant) -> Option<FieldFault>
+    requires at { at < length plan.now }
+    requires fitting { fits (watch_at plan.now at) grant.now.format ≡ true }
+    ensures { result ≡ field_fault (list_of (watch_at plan.now at) grant.now.format) grant.now.format grant.now.given }
 {
-    let list = watch.list(grant.format);
-    let size = usize::from(watch.size);
+    let list = plan.list(at, grant.format);
+    let size = usize::from(plan.size(at));
     match pack(&list, grant.format, grant.given.as_slice(), size) {
         Ok(_payload) => None,
         Err(fault) => Some(fault),
     }
 }
 
-/// The place of the first suitable watch that is free.
-fn first_free(ledger: &Ledger, plan: &Outline, grant: &Grant) -> Option<usize>
-    requires { All (IsInside ledger.now.blocks) plan.now }
+/// The place of the first suitable watch that is free. `first` is that of the first suitable one.
+fn first_free(ledger: &Ledger, plan: &Outline, grant: &Grant, first: usize) -> Option<usize>
+    requires inside { All (IsInside ledger.now.blocks) plan.now }
+    requires first { position (is_suitable grant.now) plan.now ≡ Some first }
     ensures { result ≡ position (λ w. is_suitable grant.now w && is_free ledger.now w) plan.now }
 {
-    for at in 0..plan.len() {
+    for at in first..plan.len() {
         if is_open(ledger, plan, at, grant) {
             return Some(at);
         }

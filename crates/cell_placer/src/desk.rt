@@ -88,7 +88,7 @@ impl Desk {
             Ok(entry) => {
                 let watch = self.ledger.watch_of(entry);
                 write(codes, tables, &watch, grant, &mut self.grid);
-                self.ledger.accept(entry);
+                self.ledger.accept(entry, &watch);
                 Ok(Placed {
                     watch: entry.watch as u32,
                 })

@@ -119,13 +119,13 @@ impl Ledger {
         self.calls += 1;
     }
 
-    /// Counts a call and keeps the entry of the grant that it accepted.
-    pub fn accept(&mut self, entry: Accepted)
+    /// Counts a call and keeps the entry of the grant that it accepted, whose watch this is.
+    pub fn accept(&mut self, entry: Accepted, watch: &Watch)
         requires spot { IsSpot self.old entry }
+        requires watch { watch.now ≡ watch_of self.old.members entry }
         requires calls { self.old.calls + 1 < 2 ^ 32 }
         ensures { self.new ≡ record self.old { calls = self.old.calls + 1; accepted = self.old.accepted ++ entry ∷ [] } }
     {
-        let watch = self.members[entry.handset].plan.watch(entry.watch);
         own(
             &mut self.owners,
             self.blocks,

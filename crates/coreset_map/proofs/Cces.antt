@@ -191,12 +191,18 @@ in_cces resources start level reg i =
     let (low, high) = in_range j start level m in
     (j, low, high, k)
 
--- the REG at a place from its parts, as the code makes it
-pub placed-from : (resources : Resources) (number duration block q : ℕ) → number ≡ number_at (6 * cce_count resources) resources q
+-- the REG of a number from its parts, as the code makes it
+pub reg-from : (resources : Resources) (number duration block : ℕ)
     → duration ≡ resources.duration → block ≡ slice_index (blocks_of resources) (number / duration)
-    → reg_in (number % duration) block ≡ placed_reg (6 * cce_count resources) resources q
-unfolding placed_reg reg_of
-placed-from resources number duration block q e f g = cc
+    → reg_in (number % duration) block ≡ reg_of resources number
+unfolding reg_of
+reg-from resources number duration block f g = cc
+
+-- the REG at a place by its number
+pub placed-from : (resources : Resources) (number q : ℕ) → number ≡ number_at (6 * cce_count resources) resources q
+    → reg_of resources number ≡ placed_reg (6 * cce_count resources) resources q
+unfolding placed_reg
+placed-from resources number q e = ap (reg_of resources) e
 
 -- the REGs of a CCE, as the code makes them
 pub cce_from : (resources : Resources) (j : ℕ) (a b c d e f : Reg) → AreResources resources

@@ -1,5 +1,6 @@
 pub mod Bits
 pub mod Blocks
+pub mod Bundles
 pub mod CandidateRegs
 pub mod Cces
 pub mod Interleaving

@@ -1,7 +1,7 @@
 //! The REGs of a control resource set (3GPP TS 38.211, 7.3.2.2).
-ghost use Rattle.std.specs.Prelude.{◌≡◌, ℕ, ◌+◌, ◌*◌, ◌<◌, ◌≤◌, length, option_map, slice_index};
+ghost use Rattle.std.specs.Prelude.{◌≡◌, ◌≢◌, ℕ, ◌+◌, ◌-◌, ◌*◌, ◌%◌, ◌<◌, ◌≤◌, length, option_map, slice_index};
 ghost use Rattle.coreset_map.specs.Candidates.{candidate_regs};
-ghost use Rattle.coreset_map.specs.ControlResources.{blocks_of, cce_count, cce_regs, AreBelow, AreResources};
+ghost use Rattle.coreset_map.specs.ControlResources.{blocks_of, bundle_size, cce_count, cce_regs, reg_of, AreBelow, AreResources};
 ghost use Rattle.coreset_map.specs.Numbers.{number_at, placed_reg};
 ghost use Rattle.coreset_map.specs.RegOrder.{AreRegs, AreWithin};
 ghost use Rattle.rrc_settings.specs.HandsetsOfCell.{handset_at};
@@ -100,8 +100,10 @@ impl Map {
     {
         let _count = self.cce_count();
         let mut regs = ArrayVec::new();
+        let mut number = 0;
         for place in 6 * start..6 * (start + u16::from(level)) {
-            regs.push(self.reg_at(place));
+            number = self.next_number(place, number);
+            regs.push(self.reg(number));
         }
         regs.sort_unstable();
         regs
@@ -113,7 +115,15 @@ impl Map {
         ensures { result ≡ placed_reg (6 * cce_count self.now) self.now place }
     {
         let _count = self.cce_count();
-        let number = self.number_at(place);
+        self.reg(self.number_at(place))
+    }
+
+    /// The REG of a number.
+    fn reg(&self, number: u16) -> Reg
+        requires { number < 6 * cce_count self.now }
+        ensures { result ≡ reg_of self.now number }
+    {
+        let _count = self.cce_count();
         Reg {
             symbol: (number % self.duration) as u8,
             block: self.block_at(number / self.duration),
@@ -127,6 +137,22 @@ impl Map {
     {
         let group = u32::from(self.groups[usize::from(rank / 6)]);
         (group_block(self.start, group) + u32::from(rank % 6)) as u16
+    }
+
+    /// The number of the REG at a place of the CCEs, where `before` is that of the place before, if both are in one bundle.
+    fn next_number(&self, place: u16, before: u16) -> u16
+        requires place { place < 6 * cce_count self.now }
+        requires before { place % bundle_size self.now.interleaver ≢ 0
+            → before ≡ number_at (6 * cce_count self.now) self.now (place - 1) }
+        ensures value { result ≡ number_at (6 * cce_count self.now) self.now place }
+        ensures below { result < 6 * cce_count self.now }
+    {
+        let _count = self.cce_count();
+        let rest = place % bundle_size(self.interleaver);
+        if rest == 0 {
+            return self.number_at(place);
+        }
+        before + 1
     }
 
     /// The number of the REG at a place of the CCEs, six places for each.

@@ -11,6 +11,7 @@ use Rattle.dci_fields.specs.Payloads.{payload_of}
 use Rattle.dci_fields.proofs.FormatsApart.{is_downlink, payload_down, order_apart}
 use Rattle.monitor_plan.specs.declared.watch.Watch.{Watch}
 use Rattle.monitor_plan.specs.Watch.{fits, list_of, IsSound}
+use Rattle.monitor_plan.proofs.OrderLists.{second_fdra}
 use Rattle.dci_fields.specs.FormatsOfSets.{is_for_fallback}
 use Rattle.rrc_settings.specs.declared.settings.SetKind.{SetKind}
 use Rattle.rrc_settings.specs.declared.settings.SetKind.TheVariants.{Common, Fallback, Specific}
@@ -31,11 +32,6 @@ order_width size (first ∷ second ∷ rest) h = let room = h.2 in omega (arith,
 order_begins : (rows : List FieldRow) → BeginsWithIdentifier rows → BeginsWithIdentifier (order_of rows)
 order_begins [] h = absurd h
 order_begins (first ∷ rest) h = h
-
-second_fdra : (size : ℕ) (rows : List FieldRow) → HasRoomForOrder size rows → HasFdraSecond rows
-second_fdra size [] h = absurd h
-second_fdra size (first ∷ []) h = absurd h
-second_fdra size (first ∷ second ∷ rest) h = h.1
 
 -- the list of a format that fits is no wider than the size
 pub list_width : (w : Watch) (f : Format) → IsSound w → fits w f ≡ true → width_of (list_of w f) ≤ w.size

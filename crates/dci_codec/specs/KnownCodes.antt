@@ -1,5 +1,5 @@
 -- Of the search, not of the standard: the codes that it keeps for the watches that come next.
-use Rattle.std.specs.Prelude.{◌≡◌, ◌+◌, ◌*◌, Option, IfSome, MatchOption}
+use Rattle.std.specs.Prelude.{◌≡◌, ◌+◌, ◌*◌, Option, IfSome, MatchOption, cond}
 use Rattle.monitor_plan.specs.declared.watch.Watch.{Watch}
 use Rattle.polar_chain.specs.CodeShape.{CodeShape, IsByTables}
 use Rattle.table_files.specs.declared.tables.Tables.{Tables}
@@ -11,8 +11,12 @@ IsBy tables s = IsByTables tables.reliability tables.input_order s.block_len s.c
 
 -- each code that is kept is by these tables
 pub record AreOf (tables : Tables) (codes : Codes) : Type 0 where
-  pub last : IfSome codes.last (IsBy tables)
-  pub before : IfSome codes.before (IsBy tables)
+  pub first : IfSome codes.first (IsBy tables)
+  pub second : IfSome codes.second (IsBy tables)
+
+-- the code that was needed last
+abbrev pub last_of : Codes → Option CodeShape
+last_of codes = cond codes.is_second_last codes.second codes.first
 
 -- a code is for the blocks at a watch
 pub record IsFor (watch : Watch) (s : CodeShape) : Type 0 where

@@ -2,7 +2,7 @@
 ghost use Rattle.std.specs.Prelude.{◌≡◌, ◌↔◌, true, IsTrue, Some, is_some};
 ghost use Rattle.monitor_plan.specs.Watch.{IsCarrying};
 ghost use Rattle.table_files.specs.declared.tables.Tables.{Tables};
-ghost use Rattle.dci_codec.specs.KnownCodes.{AreOf, IsAt, IsThereFor};
+ghost use Rattle.dci_codec.specs.KnownCodes.{last_of, AreOf, IsAt, IsThereFor};
 
 use crate::coding::code_at;
 use dmrs_qpsk::References;
@@ -11,11 +11,13 @@ use polar_chain::Code;
 use table_files::Tables;
 
 /// The codes of the two kinds of watch that came last: a set has two sizes at most, which take turns. It also keeps the
-/// reference bits of each symbol of the slot that is heard.
+/// reference bits of each symbol of the slot.
 #[derive(Debug, Drop)]
 pub struct Codes {
-    last: Option<Code>,
-    before: Option<Code>,
+    first: Option<Code>,
+    second: Option<Code>,
+    /// Whether the second is the last one.
+    is_second_last: bool,
     pub(crate) references: References,
 }
 
@@ -25,8 +27,9 @@ impl Codes {
         ensures { (tables : Tables) → AreOf tables result }
     {
         Codes {
-            last: None,
-            before: None,
+            first: None,
+            second: None,
+            is_second_last: false,
             references: References::new(),
         }
     }
@@ -35,27 +38,33 @@ impl Codes {
     pub(crate) fn turn_to(&mut self, tables: &Tables, watch: &Watch)
         requires carrying { IsCarrying watch.now }
         requires known { AreOf tables.now self.old }
-        ensures last { IsAt tables.now watch.now self.new.last }
+        ensures last { IsAt tables.now watch.now (last_of self.new) }
         ensures known { AreOf tables.now self.new }
     {
-        if is_at(&self.last, watch) {
-            return;
-        }
-        let last = self.last.take();
-        if is_at(&self.before, watch) {
-            self.last = self.before.take();
+        if is_at(&self.first, watch) {
+            self.is_second_last = false;
+        } else if is_at(&self.second, watch) {
+            self.is_second_last = true;
+        } else if self.is_second_last {
+            self.first = Some(code_at(tables, watch));
+            self.is_second_last = false;
         } else {
-            self.last = Some(code_at(tables, watch));
+            self.second = Some(code_at(tables, watch));
+            self.is_second_last = true;
         }
-        self.before = last;
     }
 
     /// The last code.
     pub(crate) fn last(&self) -> &Code
-        requires { is_some self.now.last ≡ true }
-        ensures { self.now.last ≡ Some result.now }
+        requires { is_some (last_of self.now) ≡ true }
+        ensures { last_of self.now ≡ Some result.now }
     {
-        match &self.last {
+        let last = if self.is_second_last {
+            &self.second
+        } else {
+            &self.first
+        };
+        match last {
             Some(code) => code,
             None => unreachable!(),
         }

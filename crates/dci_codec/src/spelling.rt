@@ -14,7 +14,7 @@ use crate::scrambling::scramble;
 use bits_core::Payload;
 use crc_mask::attach;
 use dci_fields::{FieldFault, Format, Given, pack};
-use dmrs_qpsk::put_bits;
+use dmrs_qpsk::put_bits_with;
 use monitor_plan::Watch;
 use slot_grid::Grid;
 use table_files::Tables;
@@ -85,5 +85,13 @@ pub fn put_payload(
     let block = attach(payload, watch.rnti);
     codes.turn_to(tables, watch);
     let bits = scramble(&codes.last().encode(&block), watch.scramble);
-    put_bits(grid, watch.symbol, &watch.regs, watch.dmrs_id, &bits);
+    let references = &mut codes.references;
+    put_bits_with(
+        references,
+        grid,
+        watch.symbol,
+        &watch.regs,
+        watch.dmrs_id,
+        &bits,
+    );
 }

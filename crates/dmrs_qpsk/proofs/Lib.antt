@@ -7,6 +7,8 @@ pub mod PointsRead
 pub mod KeptBits
 pub mod Appends
 pub mod RegBits
+pub mod RegWords
+pub mod RowBits
 pub mod RegsRead
 pub mod Takes
 pub mod ReferencePairs

@@ -120,3 +120,17 @@ reg_read word references whole e f g packed is = record {
   bit = λ k i l r m. sym (ap (λ n. has_one n (2 * data_rank k + i)) is ∙ data_bit word k i l r m);
   small = omega (arith, is);
 }
+
+-- the word of a REG's bits and of reference bits
+abbrev word_with : ℕ → ℕ → ℕ
+word_with packed references =
+    packed % 4 + 4 * (references % 4) + 16 * (packed / 4 % 64)
+    + 1024 * (references / 4 % 4 + 4 * (packed / 256 % 64) + 256 * (references / 16 % 4))
+    + 1048576 * (packed / 16384 + 16 * 4095)
+
+-- it is a REG's word with these bits
+pub reg_made : (packed references word : ℕ) → packed < 2 ^ 18 → word ≡ word_with packed references
+    → IsRegRead word references packed
+reg_made packed references word small is =
+    reg_read word references (omega (arith, small, is)) (omega (arith, small, is)) (omega (arith, small, is))
+    (omega (arith, small, is)) packed (omega (arith, small, is))

@@ -1,15 +1,9 @@
 -- How far the points of a candidate are written: of the code, not of the standard.
-use Rattle.std.specs.Prelude.{◌≡◌, ℕ, ◌+◌, ◌*◌, ◌/◌, ◌<◌, ◌≤◌, Bool, List}
+use Rattle.std.specs.Prelude.{◌≡◌, ℕ, ◌+◌, ◌*◌, ◌/◌, ◌<◌, Bool, List}
 use Rattle.slot_grid.specs.Grid.{GridValue, SameNumbers, point_at}
 use Rattle.coreset_map.specs.declared.places.Reg.{Reg}
 use Rattle.coreset_map.specs.RegOrder.{reg_at}
 use Rattle.dmrs_qpsk.specs.PointsOnGrid.{reg_point}
-
--- the first k points of REG j are written, and every other place is as before
-pub record IsRegPut (symbol id block : ℕ) (bits : List Bool) (j k : ℕ) (old new : GridValue) : Type 0 where
-  pub numbers : SameNumbers old new
-  pub there : (i : ℕ) → i < k → point_at new symbol (12 * block + i) ≡ reg_point old.slot symbol id block bits j i
-  pub others : (s c : ℕ) → (s ≡ symbol → 12 * block ≤ c → c < 12 * block + k → ⊥) → point_at new s c ≡ point_at old s c
 
 -- all points of the first n REGs are written, and every other place is as before
 pub record AreRegsPut (first id : ℕ) (regs : List Reg) (bits : List Bool) (n : ℕ) (old new : GridValue) : Type 0 where

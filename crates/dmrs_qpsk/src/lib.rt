@@ -10,7 +10,7 @@ mod references;
 mod sequences;
 mod taking;
 
-pub use placing::put_bits;
+pub use placing::{put_bits, put_bits_with};
 pub use reference::reference_point;
 pub use references::References;
 pub use taking::{BadPlace, Flaw, take_bits, take_bits_with};

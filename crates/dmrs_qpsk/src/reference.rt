@@ -2,7 +2,7 @@
 ghost use Rattle.std.specs.Prelude.{◌≡◌, ◌^◌, ◌<◌, ◌≤◌, true};
 ghost use Rattle.coreset_map.specs.DataPlaces.{is_reference};
 ghost use Rattle.dmrs_qpsk.specs.Modulation.{point_of};
-ghost use Rattle.dmrs_qpsk.specs.PointsOnGrid.{data_rank, reference_rank};
+ghost use Rattle.dmrs_qpsk.specs.PointsOnGrid.{reference_rank};
 ghost use Rattle.dmrs_qpsk.specs.ReferencePoints.{reference, reference_start};
 
 use gold_scrambler::Gold;
@@ -34,15 +34,6 @@ pub(crate) fn references_before(k: u8) -> u8
     ensures small { result ≤ 2 }
 {
     k / 4
-}
-
-/// How many data places a block has below subcarrier `k`.
-pub(crate) fn data_before(k: u8) -> u8
-    requires { k < 12 }
-    ensures value { result ≡ data_rank k }
-    ensures small { result < 9 }
-{
-    k - (k + 2) / 4
 }
 
 /// The reference point at subcarrier `4 * k + 1` of a common block (3GPP TS 38.211, 7.4.1.3.1).

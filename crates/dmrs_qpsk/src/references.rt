@@ -20,7 +20,7 @@ const WORDS: usize = 28;
 const NONE: u32 = 1 << 31;
 
 /// The bits of the reference points of each symbol of a slot, by the start value that was asked for last there (3GPP TS 38.211,
-/// 7.4.1.3.1): whoever takes the bits of many candidates has those of a symbol made once.
+/// 7.4.1.3.1): whoever puts or takes the bits of many candidates has those of a symbol made once.
 #[derive(Debug, Drop)]
 pub struct References {
     starts: [u32; 14],

@@ -5,3 +5,4 @@ pub mod Plans
 pub mod SoundWatches
 pub mod SharedRegs
 pub mod PlannedWatches
+pub mod OrderLists

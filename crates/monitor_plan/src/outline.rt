@@ -1,18 +1,18 @@
 //! The plan of a handset in a slot, with its watches made on demand.
-ghost use Rattle.std.specs.Prelude.{◌≡◌, ℕ, ◌+◌, ◌*◌, ◌^◌, ◌<◌, ◌≤◌, ◌↔◌, All, IfOk, Ok, Err, is_some, length};
+ghost use Rattle.std.specs.Prelude.{◌≡◌, ℕ, ◌+◌, ◌*◌, ◌^◌, ◌<◌, ◌≤◌, ◌↔◌, All, IfOk, Ok, Err, is_some, length, true};
 ghost use Rattle.coreset_map.specs.ControlResources.{cce_count};
-ghost use Rattle.monitor_plan.specs.Watch.{fits, watch_at, IsPlan, IsInside};
+ghost use Rattle.monitor_plan.specs.Watch.{fits, list_of, watch_at, IsPlan, IsInside};
 ghost use Rattle.monitor_plan.specs.SetFormats.{fields_at, watch_in};
 ghost use Rattle.monitor_plan.specs.Planned.{over_by, planned};
 
 use crate::formats::is_for_fallback;
 use crate::monitored::{MonitoredSet, Monitoring, monitoring_of};
-use crate::set_formats::has_fields_at;
+use crate::set_formats::{has_fields_at, list_at};
 use crate::set_watches::watch_of;
 use crate::{PlanFault, Watch};
 use arrayvec::ArrayVec;
 use coreset_map::Reg;
-use dci_fields::Format;
+use dci_fields::{FieldList, Format, order_list};
 use monitor_budget::{Candidate, allot};
 use rrc_settings::Cell;
 use size_alignment::sizes;
@@ -122,6 +122,14 @@ impl Outline {
         self.parts(at).1.candidate
     }
 
+    /// The size of the payload of the watch at a place, in bits.
+    pub fn size(&self, at: usize) -> u16
+        requires { at < length self.now }
+        ensures { result ≡ (watch_at self.now at).size }
+    {
+        self.parts(at).1.size
+    }
+
     /// Whether a format fits the watch at a place.
     pub fn fits(&self, at: usize, format: Format) -> bool
         requires { at < length self.now }
@@ -137,6 +145,21 @@ impl Outline {
             Format::Order => fallback && down,
             Format::F01 => !fallback && up,
             Format::F11 => !fallback && down,
+        }
+    }
+
+    /// The fields of a format that fits the watch at a place.
+    pub fn list(&self, at: usize, format: Format) -> FieldList
+        requires at { at < length self.now }
+        requires fits { fits (watch_at self.now at) format ≡ true }
+        ensures value { result ≡ list_of (watch_at self.now at) format }
+        ensures plan { IsPlan self.now }
+    {
+        let (set, candidate) = self.parts(at);
+        match format {
+            Format::F00 | Format::F01 => list_at(&set.formats.up, candidate.size),
+            Format::F10 | Format::F11 => list_at(&set.formats.down, candidate.size),
+            Format::Order => order_list(&list_at(&set.formats.down, candidate.size)),
         }
     }
 

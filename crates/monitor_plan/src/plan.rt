@@ -64,7 +64,9 @@ impl Plan {
         let sizes = sizes(cell, handset);
         match allot(cell, handset, &sizes, frame, slot) {
             Ok(allotment) => {
-                match watches_of(alloc, cell, handset, &sizes, allotment.sets.as_slice()) {
+                let room = usize::from(allotment.candidates);
+                let places = allotment.sets.as_slice();
+                match watches_of(alloc, cell, handset, &sizes, places, room) {
                     Ok(watches) => Ok(Plan { watches }),
                     Err(_) => Err(PlanFault::NoMemory),
                 }
@@ -85,13 +87,15 @@ impl Plan {
     }
 }
 
-/// The watches of the sets at some places, set by set. `sizes` are the handset's.
+/// The watches of the sets at some places, set by set. `sizes` are the handset's, and `room` is how many watches are expected:
+/// there are no fewer, and as many where no two candidates count as one.
 fn watches_of(
     alloc: Global,
     cell: &Cell,
     handset: usize,
     sizes: &Sizes,
     places: &[u16],
+    room: usize,
 ) -> Result<Vec<Watch>, AllocError>
     requires handset { handset < length cell.now.handsets }
     requires places { All (λ place. place < length (handset_at cell.now handset).sets.items) places.now }
@@ -100,7 +104,7 @@ fn watches_of(
         ≡ watches_of cell.now (handset_at cell.now handset) sizes.now places.now) }
     ensures few { IfOk result (λ watches. length watches.items ≤ 1120 * length places.now) }
 {
-    let mut watches = Vec::new(alloc);
+    let mut watches = Vec::with_capacity(alloc, room)?;
     for place in places {
         push_set(&mut watches, cell, handset, sizes, usize::from(*place))?;
     }

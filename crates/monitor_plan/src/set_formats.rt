@@ -95,6 +95,17 @@ pub(crate) fn fields_at(format: &Option<SizedList>, size: u16) -> Option<FieldLi
     }
 }
 
+/// The fields of a format at its size.
+pub(crate) fn list_at(format: &Option<SizedList>, size: u16) -> FieldList
+    requires { is_some (fields_at format.now size) ≡ true }
+    ensures { fields_at format.now size ≡ Some result }
+{
+    match format {
+        Some(format) => copy_of(&format.list),
+        None => unreachable!(),
+    }
+}
+
 /// Whether the size is the format's.
 pub(crate) fn has_fields_at(format: &Option<SizedList>, size: u16) -> bool
     ensures { result ≡ is_some (fields_at format.now size) }

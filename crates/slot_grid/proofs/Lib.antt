@@ -4,5 +4,6 @@ pub mod Points
 pub mod BlockWords
 pub mod GridWords
 pub mod Writes
+pub mod BlockWrites
 pub mod Images
 pub mod Agreements

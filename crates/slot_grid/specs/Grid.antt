@@ -1,8 +1,9 @@
 -- The resource grid of one slot (3GPP TS 38.211, 4.4.2): 14 symbols of 12 subcarriers a block, one QPSK point or none at each
 -- place.
-use Rattle.std.specs.Prelude.{◌≡◌, ℕ, ◌+◌, ◌*◌, ◌^◌, ◌<◌, ◌≤◌, nat_lt, cond, List, length, slice_index_or, slice_set}
+use Rattle.std.specs.Prelude.{◌≡◌, ℕ, ◌+◌, ◌*◌, ◌/◌, ◌^◌, ◌<◌, ◌≤◌, nat_lt, cond, List, length, slice_index_or, slice_set}
 use Rattle.slot_grid.specs.declared.places.Point.{Point}
 use Rattle.slot_grid.specs.declared.places.Point.TheVariants.{Empty}
+use Rattle.slot_grid.specs.Block.{point_in}
 
 -- a grid: its numbers, and its points symbol by symbol and in a symbol by rising subcarrier
 pub record GridValue : Type 0 where
@@ -55,3 +56,9 @@ pub record IsPut (symbol subcarrier : ℕ) (point : Point) (old new : GridValue)
   pub numbers : SameNumbers old new
   pub there : point_at new symbol subcarrier ≡ point
   pub others : (s c : ℕ) → (s ≡ symbol → c ≡ subcarrier → ⊥) → point_at new s c ≡ point_at old s c
+
+-- each place of one block in one symbol has the point that a word has there, and each other place has the point that it had
+pub record IsBlockPut (symbol block word : ℕ) (old new : GridValue) : Type 0 where
+  pub numbers : SameNumbers old new
+  pub there : (k : ℕ) → k < 12 → point_at new symbol (12 * block + k) ≡ point_in word k
+  pub others : (s c : ℕ) → (s ≡ symbol → c / 12 ≡ block → ⊥) → point_at new s c ≡ point_at old s c

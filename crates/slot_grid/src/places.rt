@@ -1,7 +1,7 @@
 //! The points of a slot, each at its symbol and subcarrier.
 ghost use Rattle.std.specs.Prelude.{◌≡◌, ◌+◌, ◌*◌, ◌<◌, ◌≤◌, ℕ, IfOk};
 ghost use Rattle.slot_grid.specs.Block.{point_in};
-ghost use Rattle.slot_grid.specs.Grid.{IsGrid, IsPut, point_at, slots_in_frame, with_point};
+ghost use Rattle.slot_grid.specs.Grid.{IsBlockPut, IsGrid, IsPut, point_at, slots_in_frame, with_point};
 ghost use Rattle.slot_grid.specs.Image.{blank_grid};
 
 use crate::words::{point_of_word, with_point};
@@ -142,6 +142,17 @@ impl Grid {
     {
         let place = place(self.blocks, symbol, subcarrier / 12);
         self.words[place] = with_point(self.words[place], u32::from(subcarrier % 12), point);
+    }
+
+    /// Writes the points of block `block` in `symbol`, which is below 14, and at no other place: `word` has them as
+    /// [`Grid::block`] gives them.
+    pub fn put_block(&mut self, symbol: u8, block: u16, word: u64)
+        requires symbol { symbol < 14 }
+        requires block { block < self.old.blocks }
+        ensures { IsBlockPut symbol block word self.old self.new }
+    {
+        let place = place(self.blocks, symbol, block);
+        self.words[place] = word;
     }
 }
 

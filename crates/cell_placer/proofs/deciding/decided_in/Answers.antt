@@ -11,3 +11,6 @@ pub decided_among-requires-clause-fitting : goal.decided_among-requires-clause-f
 decided_among-requires-clause-fitting c =
     (first_suits c.args.grant.now c.index-members-handset.result.plan c.in-Some.first
     (sym c.first_suitable.ensures ∙ c.in-Some.is)).1.fitting
+
+pub decided_among-requires-clause-suitable : goal.decided_among-requires-clause-suitable
+decided_among-requires-clause-suitable c = sym c.first_suitable.ensures ∙ c.in-Some.is

@@ -6,8 +6,8 @@ use Rattle.monitor_plan.proofs.plan.watches_of.Goals as goal
 
 pub loop-place-init : goal.loop-place-init
 loop-place-init c =
-    watches-none c.args.cell.now (handset_at c.args.cell.now c.args.handset) c.args.sizes.now c.new-watches.result.items
-    c.new-watches.ensures.items
+    watches-none c.args.cell.now (handset_at c.args.cell.now c.args.handset) c.args.sizes.now c.in_ok-watches.watches.items
+    c.in_ok-watches.ensures.items
 
 pub loop-place-preserved : goal.loop-place-preserved
 loop-place-preserved c =

@@ -1,10 +1,10 @@
-use Rattle.std.proofs.Common.{List, ℕ, ◌+◌, Option, sym, subst, ◌++◌, ◌∷◌, [], ◌≡◌, ◌∙◌, length, drop, arith}
+use Rattle.std.proofs.Common.{List, ℕ, ◌+◌, Option, ap, sym, subst, ◌++◌, ◌∷◌, [], ◌≡◌, ◌∙◌, length, drop, arith}
 use Rattle.cell_placer.specs.declared.member.Accepted.{Accepted}
-use Rattle.cell_placer.specs.Ledger.{LedgerValue, IsLedger}
+use Rattle.cell_placer.specs.Ledger.{LedgerValue, IsLedger, watch_of}
 use Rattle.cell_placer.specs.Owners.{AreOwners}
 use Rattle.cell_placer.specs.Ready.{IsSpot}
 use Rattle.cell_placer.specs.View.{ledger_of}
-use Rattle.cell_placer.proofs.Entries.{IsFoundFor, IsOwnedBy, watch_found, owners_after, ledger_after, written_back}
+use Rattle.cell_placer.proofs.Entries.{IsOwnedBy, owners_after, ledger_after, written_back}
 use Rattle.cell_placer.proofs.ledger.Ledger.accept.Goals as goal
 
 pub invariant_of-self : goal.invariant_of-self
@@ -13,17 +13,15 @@ invariant_of-self c =
     let a = c.args.entry in
     let kept = c.self.invariant in
     let spot : IsSpot l a = subst (λ (v : LedgerValue). IsSpot v a) (sym c.self.view_is) c.requires.spot in
-    let found : IsFoundFor l.members a c.watch-watch.result =
-    record { member = c.index.result.now; member_is = c.index.ensures; watch_is = c.watch-watch.ensures.value } in
     let P : List Accepted → Type 0 =
     λ x. IsLedger (record { blocks = l.blocks; members = l.members; room = l.room; calls = l.calls + 1; accepted = x }) in
     let Q : List Accepted → Type 0 = λ x. AreOwners l.blocks l.members x c.own.new.owners in
     let owners = c.self.inside.owners in
     let written : IsOwnedBy l a owners.items c.own.new.owners = record {
-      watch = c.watch-watch.result;
+      watch = c.args.watch.now;
       regs = c.as_slice.result.now;
       before = c.deref_mut.result.now;
-      watch_is = watch_found spot found;
+      watch_is = c.requires.watch ∙ ap (λ (v : LedgerValue). watch_of v.members a) (sym c.self.view_is);
       regs_are = c.as_slice.ensures.value;
       before_is = c.deref_mut.ensures.value;
       after_is = c.own.ensures;

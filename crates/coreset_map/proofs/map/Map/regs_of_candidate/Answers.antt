@@ -1,8 +1,11 @@
-use Rattle.std.proofs.Common.{◌≡◌, ◌+◌, ◌*◌, ◌≤◌, ◌∷◌, ◌++◌, [], length, map, ap, sym, ◌∙◌, subst, IsPermutation, arith}
+use Rattle.std.proofs.Common.{◌≡◌, ◌+◌, ◌*◌, ◌≤◌, List, ◌∷◌, ◌++◌, [], refl, length, map, ap, sym, ◌∙◌, subst, IsPermutation, arith}
 use Rattle.std.specs.List.{range_with_len}
 use Rattle.std.proofs.lemmas.List.FromFn.{map-range_with_len_more}
+use Rattle.coreset_map.specs.declared.places.Reg.{Reg}
 use Rattle.coreset_map.specs.ControlResources.{cce_count}
-use Rattle.coreset_map.specs.Numbers.{placed_reg}
+use Rattle.coreset_map.specs.Numbers.{number_at, placed_reg}
+use Rattle.coreset_map.proofs.Bundles.{begins_at}
+use Rattle.coreset_map.proofs.Cces.{placed-from}
 use Rattle.coreset_map.proofs.SortedRegs.{sorted_listed}
 use Rattle.coreset_map.proofs.map.Map.regs_of_candidate.Goals as goal
 
@@ -17,11 +20,27 @@ loop-place-preserved c =
       size = let e = l.invariant.size in omega (arith, e, more);
       items =
           c.push.ensures.items
-          ∙ ap (λ regs. regs ++ c.reg_at.result ∷ []) l.invariant.items
-          ∙ ap (λ reg. map h (range_with_len first n) ++ reg ∷ []) c.reg_at.ensures
+          ∙ ap (λ regs. regs ++ c.reg.result ∷ []) l.invariant.items
+          ∙ ap (λ reg. map h (range_with_len first n) ++ reg ∷ [])
+          (c.reg.ensures
+          ∙ placed-from c.args.self.now c.next_number-number.result l.place c.next_number-number.ensures.value)
           ∙ sym (map-range_with_len_more h first n l.place l.invariant.size)
           ∙ ap (λ k. map h (range_with_len first k)) (sym more);
+      number =
+          λ _. c.next_number-number.ensures.value
+          ∙ ap (number_at (6 * cce_count c.args.self.now) c.args.self.now) (omega arith);
     }
+
+pub loop-place-init : goal.loop-place-init
+loop-place-init c = record {
+  size = let e = ap length c.new-regs.ensures in omega (arith, e);
+  items =
+      subst
+      (λ (regs : List Reg). regs
+      ≡ map (placed_reg (6 * cce_count c.args.self.now) c.args.self.now) (range_with_len (6 * c.args.start) (length regs)))
+      (sym c.new-regs.ensures) refl;
+  number = λ ne. absurd (ne (begins_at c.args.self.now c.args.start c.cce_count-count.ensures.resources));
+}
 
 pub returns : goal.returns
 returns c =

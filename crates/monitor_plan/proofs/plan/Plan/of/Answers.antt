@@ -14,8 +14,8 @@ made c =
     c.raw-settings.ensures.facts c.requires.handset c.sizes-sizes.ensures c.in-Ok.ensures.allotted
     (c.in-Ok-watches_of.ensures.watches
     ∙ ap (λ (xs : List ℕ). watches_of c.args.cell.now (handset_at c.args.cell.now c.args.handset) c.sizes-sizes.result
-    xs) c.as_slice.ensures.value)
-    (omega (arith, c.in-Ok-watches_of.ensures.few, c.as_slice.ensures.fits))
+    xs) c.as_slice-places.ensures.value)
+    (omega (arith, c.in-Ok-watches_of.ensures.few, c.as_slice-places.ensures.fits))
 
 pub invariant_of-result : goal.invariant_of-result
 invariant_of-result c = (made c).plan

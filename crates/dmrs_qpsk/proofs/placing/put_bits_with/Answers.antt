@@ -4,7 +4,7 @@ use Rattle.coreset_map.specs.declared.places.Reg.{Reg}
 use Rattle.dmrs_qpsk.specs.PointsOnGrid.{image_of}
 use Rattle.dmrs_qpsk.specs.Placed.{AreRegsPut}
 use Rattle.dmrs_qpsk.proofs.RegNumbers.{regs_done}
-use Rattle.dmrs_qpsk.proofs.placing.put_bits.Goals as goal
+use Rattle.dmrs_qpsk.proofs.placing.put_bits_with.Goals as goal
 
 pub returns-clause-grid : goal.returns-clause-grid
 returns-clause-grid c =
