@@ -5,3 +5,4 @@ pub mod LegalLoad
 pub mod Plans
 pub mod SlotDesks
 pub mod Searches
+pub mod Entries

@@ -36,8 +36,14 @@ pub fn search_all<R: Threads + Sync, G: Gate>(
     requires { All (CanSearch grids.now) jobs.old }
     ensures { jobs.new ≡ map (job_searched tables.now grids.now) jobs.old }
 {
-    let most = jobs.len().div_ceil(PARTS).max(1);
-    search_halves(rt, gate, tables, grids, most, 0, jobs);
+    search_halves(rt, gate, tables, grids, most_of(jobs.len()), 0, jobs);
+}
+
+/// How many jobs a part has at most, where there are so many in all.
+pub(crate) fn most_of(count: usize) -> usize
+    ensures { 0 < result }
+{
+    count.div_ceil(PARTS).max(1)
 }
 
 /// Searches the grids of the jobs that stand from the place `first` on, by halves of them down to parts of at most `most`.
@@ -93,7 +99,7 @@ fn search_part<G: Gate>(gate: &G, tables: &Tables, grids: &[Grid], first: usize,
 }
 
 /// Searches the grid of a job. `codes` are those that earlier jobs of the part needed.
-fn search_one(codes: &mut Codes, tables: &Tables, grids: &[Grid], job: &mut Job)
+pub(crate) fn search_one(codes: &mut Codes, tables: &Tables, grids: &[Grid], job: &mut Job)
     requires grids { CanSearch grids.now job.old }
     requires codes { AreOf tables.now codes.old }
     ensures searched { job.new ≡ job_searched tables.now grids.now job.old }

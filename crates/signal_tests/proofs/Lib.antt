@@ -1,1 +1,2 @@
 mod RegsInARow
+mod Entries

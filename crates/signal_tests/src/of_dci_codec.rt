@@ -23,7 +23,7 @@ use test_drafts::cells::{Draft, ONE};
 use test_drafts::tables::ascending_tables;
 
 /// The plan of a handset of this RNTI in a cell of 51 blocks, which has one watch at level 8.
-fn plan_for(rt: &impl Abort, alloc: Global, rnti: u16) -> Result<Plan, Fail>
+pub fn plan_for(rt: &impl Abort, alloc: Global, rnti: u16) -> Result<Plan, Fail>
     ensures some { IfOk result (λ plan. 0 < length plan) }
     ensures inside { IfOk result (λ plan. All (IsInside 51) plan) }
 {
@@ -115,7 +115,7 @@ fn flipped(point: Point) -> Point {
 }
 
 /// The grid of 51 blocks on which the grant is spelled for RNTI 17, with damages.
-fn granted(
+pub fn granted(
     rt: &impl Abort,
     alloc: Global,
     tables: &Tables,

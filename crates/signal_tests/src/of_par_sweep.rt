@@ -2,12 +2,18 @@
 ghost use Rattle.std.specs.Prelude.{◌≡◌, All, IfOk};
 ghost use Rattle.monitor_plan.specs.Watch.{IsInside};
 ghost use Rattle.par_sweep.specs.Jobs.{CanSearch};
+ghost use Rattle.par_sweep.specs.Prepared.{CanSearchEntry};
 
 use crate::meeting::Meeting;
 use crate::of_blind_search::granted;
+use crate::of_dci_codec;
 use blind_search::Searcher;
+use dci_fields::Format;
 use monitor_plan::Plan;
-use par_sweep::{Gate, Job, OpenGate, SlotTotals, append_summary, load_cell, search_all, sweep_of};
+use par_sweep::{
+    Gate, Job, OpenGate, Prepared, SlotTotals, append_summary, load_cell, prepare_each, search_all,
+    search_each, sweep_of,
+};
 use rrc_settings::Cell;
 use slot_grid::Grid;
 use std::alloc::Global;
@@ -134,6 +140,127 @@ impl Gate for Adding {
     fn enter(&self, job: usize) {
         self.sum.fetch_add(job, Ordering::SeqCst);
     }
+}
+
+/// A gate that counts how often a job of each place enters it, for the places 0 to 7.
+#[derive(Drop)]
+struct Noting {
+    counts: AtomicUsize,
+}
+
+impl Noting {
+    /// A gate that no job has entered.
+    fn new() -> Noting {
+        Noting {
+            counts: AtomicUsize::new(0),
+        }
+    }
+
+    /// The counts, one a byte, that of place 0 the lowest.
+    fn counts(&self) -> usize {
+        self.counts.load(Ordering::SeqCst)
+    }
+}
+
+impl Gate for Noting {
+    fn enter(&self, job: usize) {
+        self.counts
+            .fetch_add(1 << (8 * (job % 8)), Ordering::SeqCst);
+    }
+}
+
+/// So many plans of one handset in a cell of 51 blocks, prepared for the first of some grids.
+fn entries(
+    rt: &impl Abort,
+    alloc: Global,
+    grids: &[Grid],
+    count: usize,
+) -> Result<Vec<Prepared>, Fail>
+    ensures { IfOk result (λ entries. All (CanSearchEntry grids.now) entries.items) }
+{
+    assert!(rt; !grids.is_empty());
+    let blocks = grids[0].blocks();
+    assert!(rt; blocks == 51);
+    let mut plans = Vec::new(alloc);
+    for _ in 0..count {
+        plans.push(of_dci_codec::plan_for(rt, alloc, 17)?)?;
+    }
+    Ok(prepare_each(alloc, 0, plans)?)
+}
+
+/// Two plans of the handset to which the grant of a grid is addressed: both are ready, and each search hears it.
+#[test]
+fn what_is_prepared_is_searched(rt: HostRuntime) -> Result<(), Fail> {
+    let alloc = rt.alloc();
+    let tables = ascending_tables(alloc)?;
+    let grids = [of_dci_codec::granted(&rt, alloc, &tables, &[])?];
+    let mut entries = entries(&rt, alloc, &grids, 2)?;
+    let gate = Noting::new();
+    search_each(&rt, &gate, &tables, &grids, &mut entries);
+    assert_eq!(rt; entries.len(), 2);
+    for entry in entries.as_slice() {
+        let Prepared::Ready(job) = entry else {
+            return Err("no memory")?;
+        };
+        let found = job.searcher.found();
+        assert!(rt; job.grid == 0 && found.len() == 1);
+        assert_eq!(rt; found[0].format, Format::F10);
+    }
+    assert_eq!(rt; gate.counts(), 0x0101);
+    Ok(())
+}
+
+/// Two jobs of the load's first slot with an entry between them for which there was no memory.
+fn with_a_gap(
+    rt: &impl Abort,
+    alloc: Global,
+    cell: &Cell,
+    grids: &[Grid],
+) -> Result<Vec<Prepared>, Fail>
+    ensures { IfOk result (λ entries. All (CanSearchEntry grids.now) entries.items) }
+{
+    let mut entries = Vec::new(alloc);
+    entries.push(Prepared::Ready(job(rt, alloc, cell, grids, 0)?))?;
+    entries.push(Prepared::NoMemory { grid: 7 })?;
+    entries.push(Prepared::Ready(job(rt, alloc, cell, grids, 5)?))?;
+    Ok(entries)
+}
+
+/// How many entries the job of an entry found, where there is a job.
+fn found_by(entry: &Prepared) -> Option<usize> {
+    match entry {
+        Prepared::Ready(job) => Some(job.searcher.found().len()),
+        Prepared::NoMemory { .. } => None,
+    }
+}
+
+/// An entry without a job stays, enters no gate, and takes nothing from the others.
+#[test]
+fn an_entry_without_a_job_stays(rt: HostRuntime) -> Result<(), Fail> {
+    let alloc = rt.alloc();
+    let (cell, tables, grids) = first_slot(&rt, alloc)?;
+    let mut entries = with_a_gap(&rt, alloc, &cell, &grids)?;
+    let gate = Noting::new();
+    search_each(&rt, &gate, &tables, &grids, &mut entries);
+    assert!(rt; entries.len() == 3);
+    assert_eq!(rt; found_by(&entries[0]), Some(1));
+    assert!(rt; matches!(&entries[1], Prepared::NoMemory { grid: 7 }));
+    assert_eq!(rt; found_by(&entries[2]), Some(1));
+    assert_eq!(rt; gate.counts(), 0x01_0001);
+    Ok(())
+}
+
+/// Where there is no entry, none is searched.
+#[test]
+fn no_entry_is_searched(rt: HostRuntime) -> Result<(), Fail> {
+    let alloc = rt.alloc();
+    let tables = ascending_tables(alloc)?;
+    let grids = [of_dci_codec::granted(&rt, alloc, &tables, &[])?];
+    let mut entries = entries(&rt, alloc, &grids, 0)?;
+    let gate = Noting::new();
+    search_each(&rt, &gate, &tables, &grids, &mut entries);
+    assert!(rt; entries.is_empty() && gate.counts() == 0);
+    Ok(())
 }
 
 /// What is written of the first two slots.
