@@ -11,6 +11,7 @@ use std::test::Fail;
 use std::thread::Threads;
 
 mod meeting;
+mod narrow_sinks;
 mod outcomes;
 mod short_shelf;
 mod sweeping;
